@@ -1,0 +1,4 @@
+mod Arrivals
+mod Comers
+mod LastPolls
+mod Listed

@@ -1,0 +1,11 @@
+use Rattle.std.proofs.Common.{◌≡◌, ◌<◌, ℕ, map, slice_index_or}
+use Rattle.outside.specs.MemNet.{IsReady}
+use Rattle.outside.specs.Net.{asked_of}
+use Rattle.outside.specs.declared.types.Want.{Want}
+use Rattle.outside.proofs.mem_net.calls.answer_all.Given as goal
+
+abbrev pub invariant-loop-want : goal.invariant-loop-want
+invariant-loop-want l = record {
+  asked : map asked_of l.want-items ≡ map asked_of l.initial.want-items;
+  ready : (k : ℕ) → k < l.want-index → (d : Want) → IsReady (slice_index_or l.want-items k d);
+}
