@@ -1,0 +1,22 @@
+//! Why a call of a buffer failed.
+ghost use Rattle.std.specs.Prelude.{◌≡◌};
+
+use std::alloc::AllocError;
+
+#[derive(Clone, Copy, Debug, PartialEq, Eq)]
+pub enum BufferFault {
+    /// The spill failed.
+    Spill,
+    NoMemory,
+}
+
+impl From<AllocError> for BufferFault {
+    ghost use Rattle.std.specs.Prelude.{◌≡◌};
+    ghost use Rattle.spill_buffer.specs.declared.fault.BufferFault.TheVariants.{NoMemory};
+
+    ghost from_gives = { λ _ fault. fault ≡ NoMemory };
+
+    fn from(_: AllocError) -> BufferFault {
+        BufferFault::NoMemory
+    }
+}
