@@ -1,0 +1,9 @@
+-- The place among the rows is that among what they say.
+use Rattle.std.proofs.Common.{sym, ◌∙◌}
+use Rattle.byte_tables.specs.Cases.{row_of, has_name}
+use Rattle.byte_tables.proofs.Positions.{position_map}
+use Rattle.byte_tables.proofs.rows.find.Goals as goal
+
+pub returns-clause-first : goal.returns-clause-first
+returns-clause-first g c =
+    c.place_of.ensures.first ∙ sym (position_map (has_name c.args.name.now) row_of c.args.table.now)
