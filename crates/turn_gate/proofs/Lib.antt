@@ -1,0 +1,6 @@
+pub mod Crossing
+mod Sentences
+pub mod Moments
+pub mod Openings
+pub mod Steps
+pub mod Turns

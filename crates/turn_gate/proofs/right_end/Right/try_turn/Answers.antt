@@ -1,0 +1,13 @@
+use Rattle.std.proofs.Common.{rules, ◌∷◌, sym, ap, ◌∙◌, Some}
+use Rattle.atomic_table.specs.Table.{rest}
+use Rattle.turn_gate.specs.Ends.{in_hand}
+use Rattle.turn_gate.proofs.Steps.{takes_right}
+use Rattle.turn_gate.proofs.right_end.Right.try_turn.Goals as goal
+
+pub compare_exchange-won-requires : goal.compare_exchange-won-requires
+compare_exchange-won-requires g c = let idle = ap (λ e. e.has) c.self.view_is ∙ c.requires in
+    (search rules, search rules, takes_right g.P.Pact.agree g.P.Pact.fixed _ _ _ _ _ c.self.invariant.3 idle (c.self.invariant.4 ∙ ap in_hand idle) (search rules) (search rules))
+
+pub exchange-requires : goal.exchange-requires
+exchange-requires g c = let won = c.compare_exchange-won.ensures.2.0 (search rules) in
+    (search rules, (Some won.0, won.1 ∙ ap (λ cs. (0, Some won.0) ∷ rest cs) (sym won.1)))

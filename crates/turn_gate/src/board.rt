@@ -1,0 +1,79 @@
+//! The table that the two ends share. Word 0 is `FREE`, or `HELD` while an end has the turn. Slot 0 has the state while
+//! the word is free, and it is out with the end that has the turn.
+use crate::pact::Pact;
+use atomic_table::{Seat, Table, TableRule};
+use outside::Told;
+use std::alloc::Global;
+use std::collections::LinkedList;
+use std::marker::PhantomData;
+use std::snapshot::Snapshot;
+
+pub(crate) const FREE: u64 = 0;
+
+pub(crate) const HELD: u64 = 1;
+
+/// All entries of both ends. Like a `View` it is told of in clauses alone: no value of it is made.
+pub struct Entries<L, R> {
+    pub left: LinkedList<L>,
+    pub right: LinkedList<R>,
+}
+
+/// The state, beside the entries of both ends, which have no bytes.
+#[derive(Drop)]
+pub struct Shelf<S, L, R> {
+    pub state: Box<S>,
+    pub entries: Told<Entries<L, R>>,
+}
+
+/// Which end a seat is. Until the gate is split there is one seat, whose slot is first vacant, then out with it to be
+/// filled, and then has the state.
+pub enum Side {
+    Vacant,
+    Filling,
+    Whole,
+    Left,
+    Right,
+}
+
+/// What an end knows.
+pub struct View<L, R, F> {
+    pub side: Side,
+    /// The left end's entries: its own at the left end, those that it found last at the right end.
+    pub left: LinkedList<L>,
+    pub right: LinkedList<R>,
+    /// What no turn changes.
+    pub fixed: F,
+    /// Whether it has the turn.
+    pub has: bool,
+    /// How many of its takes found the gate held.
+    pub refused: u64,
+    /// How many takes of the other end had found the gate held, when this end last gave it up.
+    pub turned_away: u64,
+}
+
+pub struct Gate<P> {
+    pact: PhantomData<P>,
+}
+
+impl<P: Pact> TableRule<
+    Option<Shelf<P::State, P::LeftEntry, P::RightEntry>>,
+    View<P::LeftEntry, P::RightEntry, P::Fixed>,
+    Snapshot<P::State>,
+> for Gate<P> {
+    ghost use Rattle.turn_gate.specs.Gate.{Kept, alone};
+    ghost use Rattle.turn_gate.specs.declared.board.Side.TheVariants.{Vacant};
+
+    ghost holds = { λ _. Kept P.agree P.fixed };
+
+    ghost first = { λ key. alone Vacant (P.fixed key.value) };
+}
+
+pub type Slot<P> = Option<
+    Shelf<<P as Pact>::State, <P as Pact>::LeftEntry, <P as Pact>::RightEntry>,
+>;
+
+pub type Known<P> = View<<P as Pact>::LeftEntry, <P as Pact>::RightEntry, <P as Pact>::Fixed>;
+
+pub type Board<P> = Table<Slot<P>, Known<P>, Snapshot<<P as Pact>::State>, Gate<P>, Global>;
+
+pub type Place<P> = Seat<Slot<P>, Known<P>>;
