@@ -1,0 +1,15 @@
+use Rattle.std.proofs.Common.{◌≡◌, IsTrue}
+use Rattle.waitress_serve.specs.Headline.{EntryHolds}
+use Rattle.waitress_serve.specs.Output.{responses, has_closed}
+use Rattle.waitress_serve.specs.Serving.{Serves}
+use Rattle.waitress_serve.proofs.serving.serve.Given as goal
+
+abbrev pub invariant-loop : goal.invariant-loop
+invariant-loop g l = record {
+  can : (goal.iterator-loop g).can_next l.iterator';
+  ends : (goal.iterator-loop g).is_finite l.iterator';
+  bind : g.N.Net.bind_faults l.net ≡ g.N.Net.bind_faults l.initial.net;
+  polls : g.N.Net.poll_faults l.net ≡ g.N.Net.poll_faults l.initial.net;
+  plan : g.N.Net.plan l.net ≡ g.N.Net.plan l.initial.net;
+  serves : IsTrue g.N.Net.tells → Serves (EntryHolds g.N.Link.Link.tells g.N.Link.Link.state g.N.Link.Link.faults (g.N.Net.state l.net) (λ _ x. responses x) (λ _ x. has_closed x) ⊥) g.N.Link.Link.plan (g.N.Net.state l.initial.net) (g.N.Net.state l.net);
+}
