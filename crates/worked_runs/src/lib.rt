@@ -1,0 +1,16 @@
+//! Worked runs of the server, and each call that takes memory with enough of it.
+//!
+//! What a clause says isn't tested here: the rows are those of other sources, and the calls show that
+//! want of memory isn't answered without need.
+#![tactic(auto)]
+
+#[cfg(test)]
+mod buffers;
+#[cfg(test)]
+mod echoes;
+#[cfg(test)]
+mod environs;
+#[cfg(test)]
+mod kinds;
+#[cfg(test)]
+mod runs;
