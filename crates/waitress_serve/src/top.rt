@@ -1,15 +1,16 @@
 //! The top call.
-ghost use Rattle.std.specs.Prelude.{◌≡◌, ◌≢◌, ◌<◌, ◌⊎◌, ◌↔◌, ◌&&◌, IsTrue, [], ◌∷◌, ◌++◌, map, codes, Some, IfOk};
+ghost use Rattle.std.specs.Prelude.{◌≡◌, ◌≢◌, ◌<◌, ◌⊎◌, ◌↔◌, ◌&&◌, IsTrue, [], ◌∷◌, ◌++◌, map, codes, Some, IfOk, MatchResult, OnErr, OnOk};
 ghost use Rattle.std.specs.String.{string_bytes};
-ghost use Rattle.outside.specs.Causes.{Rose};
+ghost use Rattle.outside.specs.Causes.{HasCause, Rose};
 ghost use Rattle.waitress_serve.specs.Headline.{Added, EntryHolds, RetiresGiven, ShutLast, WentDown};
-ghost use Rattle.waitress_serve.specs.Output.{is_told, output, output_closes};
+ghost use Rattle.waitress_serve.specs.Output.{has_closed, is_told, output, output_closes, responses};
+ghost use Rattle.waitress_serve.specs.Serving.{GoingPolls, GoingStops, Served};
 ghost use Rattle.waitress_serve.specs.Status.{IsFaulty, StopsLast, ToldStop, WritesPart, WritesSome, default_listen, listen_of, serving_lines, status_text, words_of};
 
 use crate::outcome::Going;
 use crate::serving::serve;
 use crate::texts::{Fault, announce, report};
-use outside::{Bytes, Listen, Net, Sink, Spills, Tree, Trigger};
+use outside::{Bytes, Failed, Listen, Net, Sink, Spills, Tree, Trigger};
 use std::alloc::{AllocError, Global};
 use std::sync::Wait;
 use std::thread::Threads;
@@ -39,6 +40,38 @@ fn addresses(alloc: Global) -> Result<Vec<Listen>, AllocError>
     let mut listen = Vec::new(alloc);
     listen.push(Listen { host, port: 8080 })?;
     Ok(listen)
+}
+
+// Prints where the server listens, and serves.
+fn announce_and_serve<W: Wait, N: Net, C: Sink>(
+    rt: &W,
+    alloc: Global,
+    net: &mut N,
+    out: &mut C,
+) -> Result<Going, Failed>
+    ensures cause { HasCause (C.faults out.old) (C.faults out.new) result }
+    ensures whole { IsTrue C.tells → OnOk result
+        (C.written out.new ≡ C.written out.old ++ serving_lines default_listen) }
+    ensures part { IsTrue C.tells →
+        WritesPart (serving_lines default_listen) (C.written out.old) (C.written out.new) }
+    ensures bind { N.bind_faults net.new ≡ N.bind_faults net.old }
+    ensures plan { N.plan net.new ≡ N.plan net.old }
+    ensures polls { MatchResult result
+        (λ going. GoingPolls going (N.poll_faults net.old) (N.poll_faults net.new))
+        (λ _. N.poll_faults net.new ≡ N.poll_faults net.old) }
+    ensures unserved { IsTrue N.tells → OnErr result (N.state net.new ≡ N.state net.old) }
+    ensures stops { IsTrue N.tells →
+        IfOk result (λ going. GoingStops going (N.state net.old) (N.state net.new)) }
+    ensures served { IsTrue N.tells → OnOk result (Served
+        (EntryHolds N.Link.tells N.Link.state N.Link.faults (N.state net.new)
+        (λ _ x. responses x) (λ _ x. has_closed x) ⊥)
+        (EntryHolds N.Link.tells N.Link.state N.Link.faults (N.state net.new)
+        (λ _ x. responses x) (λ _ x. has_closed x) (Unit {0}))
+        N.Link.plan (N.state net.old) (N.state net.new)) }
+{
+    announce(out)?;
+    let mut wants = Vec::new(alloc);
+    Ok(serve(rt, alloc, net, &mut wants))
 }
 
 /// Does all that the program does, and answers its status.
@@ -150,13 +183,10 @@ pub fn run<W: Threads + Wait + Sync, N: Net, T: Tree, P: Spills, C: Sink, G: Tri
     if net.bind(listen.as_slice()).is_err() {
         return report(err, Fault::BindFailed);
     }
-    if announce(out).is_err() {
-        return 6;
-    }
-    let mut wants = Vec::new(alloc);
-    match serve(rt, alloc, net, &mut wants) {
-        Going::Stopped => 0,
-        Going::NetFailed => report(err, Fault::PollFailed),
-        Going::NoMemory => report(err, Fault::NoMemory),
+    match announce_and_serve(rt, alloc, net, out) {
+        Err(_) => 6,
+        Ok(Going::Stopped) => 0,
+        Ok(Going::NetFailed) => report(err, Fault::PollFailed),
+        Ok(Going::NoMemory) => report(err, Fault::NoMemory),
     }
 }
