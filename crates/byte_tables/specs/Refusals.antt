@@ -2,7 +2,7 @@
 -- them.
 use Rattle.std.specs.Prelude.{ℕ, List, ◌++◌, codes, decimal}
 use Rattle.byte_tables.specs.declared.refusal.Refusal.{Refusal}
-use Rattle.byte_tables.specs.declared.refusal.Refusal.TheVariants.{RequestLine, Method, Version, Target, FieldLine, FieldValue, CodingOnOld, CodingUnknown, Length, BodyTooLarge, HeadTooLarge, ChunkSize, ChunkExtension, ChunkLineEnd, ChunkLineLong, ChunkEnd, TrailerTooLarge, NotBuilt}
+use Rattle.byte_tables.specs.declared.refusal.Refusal.TheVariants.{RequestLine, Method, Version, Target, FieldLine, FieldValue, CodingOnOld, CodingUnknown, Length, BodyTooLarge, HeadTooLarge, ChunkSize, ChunkExtension, ChunkLineEnd, ChunkLineLong, ChunkEnd, TrailerTooLarge}
 
 abbrev pub code_of : Refusal → ℕ
 code_of RequestLine = 400
@@ -22,7 +22,6 @@ code_of ChunkLineEnd = 400
 code_of ChunkLineLong = 400
 code_of ChunkEnd = 400
 code_of (TrailerTooLarge _) = 431
-code_of NotBuilt = 501
 
 -- what the body of an answer says of a refusal
 unfoldable pub text_of : Refusal → List ℕ
@@ -43,4 +42,3 @@ text_of ChunkLineEnd = codes "Invalid chunk line end"
 text_of ChunkLineLong = codes "Chunk line too long"
 text_of ChunkEnd = codes "Chunk not properly terminated"
 text_of (TrailerTooLarge n) = codes "exceeds max_header of " ++ decimal n
-text_of NotBuilt = codes "not built"

@@ -1,7 +1,7 @@
 //! One row of a table of cases: a name and its value.
 ghost use Rattle.std.specs.Prelude.{◌≡◌, ◌≤◌, length, map, IsTrue, nat_le};
 
-/// A row: its name is the first `len` bytes of `text`.
+/// A row. Of `text` only `len` bytes count: they are its name.
 #[derive(Clone, Copy, Debug)]
 pub struct Case {
     pub text: [u8; 48],

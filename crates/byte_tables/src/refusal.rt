@@ -25,8 +25,6 @@ pub enum Refusal {
     /// What stands behind a chunk's data is not CR LF (RFC 9112, section 7.1).
     ChunkEnd,
     TrailerTooLarge(u64),
-    /// What this server does not serve yet.
-    NotBuilt,
 }
 
 impl Refusal {
@@ -39,7 +37,7 @@ impl Refusal {
         match self {
             Refusal::BodyTooLarge(_) => 413,
             Refusal::HeadTooLarge(_) | Refusal::TrailerTooLarge(_) => 431,
-            Refusal::CodingUnknown | Refusal::NotBuilt => 501,
+            Refusal::CodingUnknown => 501,
             _ => 400,
         }
     }

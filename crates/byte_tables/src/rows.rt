@@ -12,7 +12,7 @@ pub fn has<const N: usize>(table: &[u8; N], byte: u8) -> bool
     table.contains(&byte)
 }
 
-/// The place of the first row with this name.
+/// Which row, from 0, is the first of this name.
 pub fn find<const N: usize>(table: &[Case; N], name: &[u8]) -> Option<usize>
     ensures first { result ≡ position (has_name name.now) (rows_of table.now) }
     ensures within { IfSome result (λ place. place < N) }
@@ -20,7 +20,7 @@ pub fn find<const N: usize>(table: &[Case; N], name: &[u8]) -> Option<usize>
     place_of(table, name)
 }
 
-/// The place of the first row with this name, ASCII letters being compared without case.
+/// Which row, from 0, is the first of this name, where ASCII letters of either case are equal.
 pub fn find_folded<const N: usize>(table: &[Case; N], name: &[u8]) -> Option<usize>
     ensures first { result ≡ position (has_name_folded name.now) (rows_of table.now) }
     ensures within { IfSome result (λ place. place < N) }
