@@ -1,0 +1,6 @@
+pub mod Answers
+pub mod Bodies
+pub mod Coded
+pub mod Pieces
+pub mod Reading
+pub mod Verdicts
