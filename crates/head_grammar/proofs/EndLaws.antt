@@ -1,10 +1,10 @@
 -- Where a head ends, when more bytes come.
-use Rattle.std.proofs.Common.{◌≡◌, ◌≤◌, ◌<◌, ℕ, suc, Bool, true, false, List, [], ◌∷◌, ◌++◌, length, take, drop, None, Some, refl, ap, sym, ◌∙◌, cond, arith, inl, inr}
+use Rattle.std.proofs.Common.{◌≡◌, ◌≤◌, ◌<◌, ◌+◌, ℕ, zero, suc, Bool, true, false, List, [], ◌∷◌, ◌++◌, length, take, drop, None, Some, refl, ap, sym, ◌∙◌, cond, arith, inl, inr}
 use Rattle.std.specs.Prelude.{Option, option_map}
 use Rattle.std.specs.Str.{bytes_eq}
 use Rattle.std.proofs.lemmas.Bool.Decides.{leb_tells}
 use Rattle.std.proofs.lemmas.Slice.Eq.{bytes_eq-Decides}
-use Rattle.std.proofs.lemmas.List.{length-take, take-append-le, take-append-drop}
+use Rattle.std.proofs.lemmas.List.{length-take, take-take, take-append-le, take-append-drop}
 use Rattle.head_grammar.specs.Ends.{head_end, head_mark}
 
 -- one step of the search for a head's end
@@ -119,3 +119,33 @@ none_by xs k (Some m) e h =
 -- no head ends in a front of bytes in which none ends
 pub head_end-front : (xs : List ℕ) (k : ℕ) → head_end xs ≡ None → head_end (take k xs) ≡ None
 head_end-front xs k h = none_by xs k (head_end (take k xs)) refl h
+
+moved_none : (k : ℕ) (r : Option ℕ) → r ≡ None → r ≡ option_map (λ n. k + n) r
+moved_none k None e = refl
+moved_none k (Some n) e = cc
+
+moved_zero : (r : Option ℕ) → r ≡ option_map (λ n. 0 + n) r
+moved_zero None = refl
+moved_zero (Some n) = ap Some (omega arith)
+
+moved_suc : (k : ℕ) (r : Option ℕ) → option_map (λ n. suc n) (option_map (λ n. k + n) r) ≡ option_map (λ n. suc k + n) r
+moved_suc k None = refl
+moved_suc k (Some n) = ap Some (omega arith)
+
+none_step : (t : Bool) (r : Option ℕ) → cond t (Some 4) (option_map (λ n. suc n) r) ≡ None → (t ≡ false) × (r ≡ None)
+none_step true r e = cc
+none_step false None e = (refl, refl)
+none_step false (Some n) e = cc
+
+-- where no head ends in the first k + 3 bytes, the search may begin behind the first k
+pub head_end-drop : (xs : List ℕ) (k : ℕ) → head_end (take (k + 3) xs) ≡ None → head_end xs ≡ option_map (λ n. k + n) (head_end (drop k xs))
+head_end-drop xs zero e = moved_zero (head_end xs)
+head_end-drop [] (suc k) e = moved_none (suc k) (head_end []) head_end-nil
+head_end-drop (b ∷ bs) (suc k) e =
+    let next : suc k + 3 ≡ suc (k + 3) = omega arith in
+    let front : head_end (b ∷ take (k + 3) bs) ≡ None = ap (λ n. head_end (take n (b ∷ bs))) (sym next) ∙ e in
+    let none = none_step (bytes_eq (take 4 (b ∷ take (k + 3) bs)) head_mark) (head_end (take (k + 3) bs)) (sym (head_end-cons b (take (k + 3) bs)) ∙ front) in
+    let four : take 4 (b ∷ take (k + 3) bs) ≡ take 4 (b ∷ bs) = ap (λ zs. b ∷ zs) (take-take 3 (k + 3) bs (omega arith)) in
+    let other : bytes_eq (take 4 (b ∷ bs)) head_mark ≡ false = ap (λ zs. bytes_eq zs head_mark) (sym four) ∙ none.0 in
+    head_end-cons b bs ∙ (ap (λ t. cond t (Some 4) (option_map (λ n. suc n) (head_end bs))) other ∙
+    (ap (option_map (λ n. suc n)) (head_end-drop bs k none.1) ∙ moved_suc k (head_end (drop k bs))))

@@ -1,8 +1,15 @@
 pub mod EndLaws
+pub mod VerdictLaws
 mod EndSearch
+mod Digits
+mod Firsts
 mod ListEnds
+mod OneByOne
+mod Places
 mod Cuts
-mod FieldLemmas
+mod KeptFields
 mod LineSearch
 mod Names
+mod LineStarts
+mod Unfolding
 mod Occurs

@@ -6,7 +6,7 @@ use Rattle.std.specs.Str.{bytes_eq}
 abbrev pub head_mark : List ℕ
 head_mark = 13 ∷ 10 ∷ 13 ∷ 10 ∷ []
 
--- the least n for which the four bytes up to n are CR LF CR LF
+-- the length of the shortest front that ends with CR LF CR LF
 unfoldable pub head_end : List ℕ → Option ℕ
 head_end [] = None
 head_end (b ∷ bs) =

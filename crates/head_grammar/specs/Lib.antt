@@ -1,7 +1,9 @@
 pub mod Classes
+pub mod Combining
 pub mod Ends
 pub mod FieldLines
+pub mod Framings
 pub mod Lines
-pub mod Refusals
 pub mod RequestLines
+pub mod Targets
 pub mod Verdict

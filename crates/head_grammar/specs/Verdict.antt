@@ -1,46 +1,64 @@
 -- What a whole head says, or why it is refused.
-use Rattle.std.specs.Prelude.{ℕ, true, false, List, [], ◌∷◌, length, Result, Ok, Err, if◌then◌else◌}
+use Rattle.std.specs.Prelude.{◌≡◌, ⊤, ℕ, Bool, false, List, [], ◌∷◌, length, codes, Result, Ok, Err}
+use Rattle.std.specs.Str.{bytes_eq}
+use Rattle.byte_tables.specs.declared.refusal.Refusal.{Refusal}
+use Rattle.head_grammar.specs.FieldLines.{fields_of}
+use Rattle.head_grammar.specs.Framings.{closes_of, expects_of, framing_of}
 use Rattle.head_grammar.specs.Lines.{head_lines}
 use Rattle.head_grammar.specs.RequestLines.{request_line}
-use Rattle.head_grammar.specs.FieldLines.{field_lines, are_served}
 use Rattle.head_grammar.specs.declared.types.Field.{Field}
+use Rattle.head_grammar.specs.declared.types.Framing.{Framing}
 use Rattle.head_grammar.specs.declared.types.Version.TheVariants.{Old}
-use Rattle.head_grammar.specs.declared.types.Framing.TheVariants.{Empty}
-use Rattle.head_grammar.specs.declared.types.Refusal.{Refusal}
-use Rattle.head_grammar.specs.declared.types.Refusal.TheVariants.{NotBuilt}
 use Rattle.head_grammar.specs.declared.types.Parsed.{Parsed}
-use Rattle.head_grammar.specs.declared.types.Parsed.TheVariants.{Good, Bad}
+use Rattle.head_grammar.specs.declared.types.Parsed.TheVariants.{Blank, Good, Bad}
 use Rattle.head_grammar.specs.declared.request_line.RequestLine.{RequestLine}
 
--- a refusal whose response is of version 1.0 and has a body
-abbrev pub refused : Refusal → Parsed
-refused refusal = Bad refusal Old false
+-- A response to HEAD has no body (RFC 9110, section 9.3.2).
+abbrev pub is_head : List ℕ → Bool
+is_head method = bytes_eq method (codes "HEAD")
 
-abbrev pub good : RequestLine → List Field → ℕ → Parsed
-good line fields size = Good (record {
+abbrev pub bad : RequestLine → Refusal → Parsed
+bad line refusal = Bad refusal line.version (is_head line.method)
+
+abbrev pub good : RequestLine → List Field → Framing → ℕ → Parsed
+good line fields framing size = Good (record {
   method = line.method;
   target = line.target;
   path = line.path;
-  query = [];
-  version = Old;
+  query = line.query;
+  version = line.version;
   fields = fields;
-  framing = Empty;
-  expects = false;
-  closes = true;
+  framing = framing;
+  expects = expects_of line.version fields framing;
+  closes = closes_of line.version fields;
   size = size;
 })
 
--- the first check that fails, in this order, gives the refusal
-abbrev pub judged : Result RequestLine Refusal → Result (List Field) Refusal → ℕ → Parsed
-judged (Err refusal) fields size = refused refusal
-judged (Ok line) (Err refusal) size = refused refusal
-judged (Ok line) (Ok fields) size =
-    if are_served fields then good line fields size else refused NotBuilt
+abbrev pub by_framing : RequestLine → List Field → ℕ → Result Framing Refusal → Parsed
+by_framing line fields size (Err refusal) = bad line refusal
+by_framing line fields size (Ok framing) = good line fields framing size
 
-abbrev pub verdict_of : List (List ℕ) → ℕ → Parsed
-verdict_of [] size = refused NotBuilt
-verdict_of (line ∷ rest) size = judged (request_line line) (field_lines rest) size
+abbrev pub by_fields : ℕ → RequestLine → ℕ → Result (List Field) Refusal → Parsed
+by_fields max_body line size (Err refusal) = bad line refusal
+by_fields max_body line size (Ok fields) =
+    by_framing line fields size (framing_of line.version fields max_body)
 
--- the verdict on a whole head; max_body is the limit on bodies, of which none is served
+-- what is refused before the version is known is answered in version 1.0, with a body
+abbrev pub by_line : ℕ → List (List ℕ) → ℕ → Result RequestLine Refusal → Parsed
+by_line max_body rest size (Err refusal) = Bad refusal Old false
+by_line max_body rest size (Ok line) = by_fields max_body line size (fields_of rest)
+
+-- the first check that fails, in this order, gives the refusal; empty lines alone are no request
+abbrev pub verdict_of : ℕ → List (List ℕ) → ℕ → Parsed
+verdict_of max_body [] size = Blank
+verdict_of max_body (line ∷ rest) size = by_line max_body rest size (request_line line)
+
+-- the verdict on a whole head; a body has fewer than max_body bytes
 unfoldable pub verdict : ℕ → List ℕ → Parsed
-verdict max_body head = verdict_of (head_lines head) (length head)
+verdict max_body head = verdict_of max_body (head_lines head) (length head)
+
+-- a served head has all the bytes
+abbrev pub HasSize : ℕ → Parsed → Type 0
+HasSize size Blank = ⊤
+HasSize size (Good head) = head.size ≡ size
+HasSize size (Bad refusal version bodyless) = ⊤

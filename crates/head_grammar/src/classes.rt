@@ -1,34 +1,55 @@
-//! The classes of bytes that heads are made of.
-ghost use Rattle.std.specs.Prelude.{◌≡◌, ◌==◌, position};
-ghost use Rattle.head_grammar.specs.Classes as classes;
+//! White space, and what texts are made of.
+ghost use Rattle.std.specs.Prelude.{◌≡◌, ◌≤◌, IfSome, length, not, position};
+ghost use Rattle.std.specs.List.{list_all};
+ghost use Rattle.byte_tables.specs.Classes.{is_field, is_token};
+ghost use Rattle.head_grammar.specs.Classes.{is_white_space, trimmed, without_space_behind, without_space_in_front};
 
-fn is_token_byte(byte: u8) -> bool
-    ensures { result ≡ classes.is_token_byte byte }
+pub fn is_white_space(byte: u8) -> bool
+    ensures { result ≡ is_white_space byte }
 {
-    byte.is_ascii_alphanumeric() || b"!#$%&'*+-.^_`|~".contains(&byte)
+    matches!(byte, b' ' | b'\t')
 }
 
-pub fn is_name_byte(byte: u8) -> bool
-    ensures { result ≡ classes.is_name_byte byte }
+fn place_of_other(bytes: &[u8]) -> Option<usize>
+    ensures place { result ≡ position (λ b. not (is_white_space b)) bytes.now }
+    ensures within { IfSome result (λ at. at ≤ length bytes.now) }
 {
-    is_token_byte(byte) && byte != b'_'
+    bytes.iter().position(|byte| !is_white_space(*byte))
 }
 
-pub fn is_field_byte(byte: u8) -> bool
-    ensures { result ≡ classes.is_field_byte byte }
+/// The bytes without the white space in front.
+pub fn trim_front(bytes: &[u8]) -> &[u8]
+    ensures { result.now ≡ without_space_in_front bytes.now }
 {
-    matches!(byte, b' ' | b'\t' | 0x21..=0x7E | 0x80..=0xFF)
+    let count = place_of_other(bytes).unwrap_or(bytes.len());
+    &bytes[count..]
 }
 
-pub fn is_target_byte(byte: u8) -> bool
-    ensures { result ≡ classes.is_target_byte byte }
+fn trim_behind(bytes: &[u8]) -> &[u8]
+    ensures { result.now ≡ without_space_behind bytes.now }
 {
-    byte.is_ascii_alphanumeric() || matches!(byte, b'/' | b'.' | b'-')
+    let mut end = bytes.len();
+    while end > 0 && is_white_space(bytes[end - 1]) {
+        end -= 1;
+    }
+    &bytes[..end]
 }
 
-/// Where `sought` stands first.
-pub fn place_of(bytes: &[u8], sought: u8) -> Option<usize>
-    ensures { result ≡ position (λ b. b == sought) bytes.now }
+/// The bytes without the white space at both ends.
+pub fn trim(bytes: &[u8]) -> &[u8]
+    ensures { result.now ≡ trimmed bytes.now }
 {
-    bytes.iter().position(|byte| *byte == sought)
+    trim_behind(trim_front(bytes))
+}
+
+pub fn are_token_bytes(bytes: &[u8]) -> bool
+    ensures { result ≡ list_all is_token bytes.now }
+{
+    bytes.iter().all(|byte| byte_tables::is_token(*byte))
+}
+
+pub fn are_field_bytes(bytes: &[u8]) -> bool
+    ensures { result ≡ list_all is_field bytes.now }
+{
+    bytes.iter().all(|byte| byte_tables::is_field(*byte))
 }

@@ -1,5 +1,5 @@
 //! Where a request head ends.
-ghost use Rattle.std.specs.Prelude.{◌≡◌, ◌<◌, ◌≤◌, length, take, None, IfSome};
+ghost use Rattle.std.specs.Prelude.{◌≡◌, ◌<◌, ◌≤◌, length, take, None, Some, IfSome};
 ghost use Rattle.head_grammar.specs.Ends.{head_end};
 
 use memchr::memmem;
@@ -12,6 +12,7 @@ pub fn head_end(bytes: &[u8], from: usize) -> Option<usize>
     ensures value { result ≡ head_end bytes.now }
     ensures behind { IfSome result (λ n. from < n) }
     ensures within { IfSome result (λ n. n ≤ length bytes.now) }
+    ensures cut { IfSome result (λ n. head_end (take n bytes.now) ≡ Some n) }
 {
     let start = from.saturating_sub(3);
     let at = memmem::find(&bytes[start..], b"\r\n\r\n")?;

@@ -1,17 +1,22 @@
-//! Where a request head ends, and what it says (RFC 9112, sections 2.2, 3 and 5).
+//! Where a request head ends, and what it says (RFC 9112, sections 2.2, 3, 5, 6 and 9.3).
 #![tactic(auto)]
 
 mod classes;
+mod combining;
 mod ends;
 mod field_line;
+mod field_lines;
 mod fields;
+mod framing;
 mod lines;
 mod request_line;
-#[cfg(test)]
-mod tests;
+mod splits;
+mod targets;
 mod types;
 mod verdict;
 
+pub use byte_tables::Refusal;
 pub use ends::head_end;
-pub use types::{Field, Framing, Head, Parsed, Refusal, Version};
+pub use fields::value_of;
+pub use types::{Field, Framing, Head, Parsed, Version};
 pub use verdict::read_head;

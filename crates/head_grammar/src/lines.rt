@@ -1,8 +1,10 @@
 //! The lines of a head.
-ghost use Rattle.std.specs.Prelude.{◌≡◌, ◌∷◌, [], IfSome, IfNone};
+ghost use Rattle.std.specs.Prelude.{◌≡◌, ◌∷◌, [], IfSome, IfNone, true, false};
 ghost use Rattle.std.specs.Iterator.{YieldsFirstRef, item_count};
 ghost use Rattle.head_grammar.specs.Lines.{lines, skip_empty};
+ghost use Rattle.head_grammar.specs.FieldLines.{continues, first_continues};
 
+use crate::classes::is_white_space;
 use memchr::memmem;
 use std::marker::Model;
 
@@ -18,6 +20,13 @@ fn cut_line(text: &[u8]) -> Option<(&[u8], &[u8])>
         Some(at) => Some((&text[..at], &text[at + 2..])),
         None => Some((text, &[])),
     }
+}
+
+// Whether the first line begins with white space.
+fn first_continues(text: &[u8]) -> bool
+    ensures { result ≡ first_continues (lines text.now) }
+{
+    !text.is_empty() && is_white_space(text[0])
 }
 
 /// The lines of a text: CR LF ends each of them (RFC 9112, section 2.1), and the last one may
@@ -52,6 +61,26 @@ impl<'a> Lines<'a> {
             if !line.is_empty() {
                 return Some(line);
             }
+        }
+        None
+    }
+
+    /// Whether the next line continues the line before it (RFC 9112, section 5.2).
+    pub fn next_continues(&self) -> bool
+        ensures { result ≡ first_continues self.now }
+    {
+        first_continues(self.rest)
+    }
+
+    /// Takes the next line off where it continues the line before it.
+    pub fn next_continued(&mut self) -> Option<&'a [u8]>
+        ensures some { IfSome result (λ line. self.old ≡ line.now ∷ self.new) }
+        ensures continued { IfSome result (λ line. continues line.now ≡ true) }
+        ensures none { IfNone result (self.new ≡ self.old) }
+        ensures no_more { IfNone result (first_continues self.old ≡ false) }
+    {
+        if self.next_continues() {
+            return self.next();
         }
         None
     }

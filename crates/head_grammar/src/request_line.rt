@@ -1,10 +1,11 @@
 //! What a request line says.
-ghost use Rattle.std.specs.Prelude.{◌≡◌, ◌≢◌, ◌∷◌, ◌==◌, ◌≤◌, [], length, not, position, ◌<◌, IfOk, IfSome, IfNone};
-ghost use Rattle.std.specs.List.{list_all, prefix_len};
-ghost use Rattle.head_grammar.specs.Classes.{is_target_byte};
+ghost use Rattle.std.specs.Prelude.{◌≡◌, ◌≢◌, ◌∷◌, [], length, IfOk, IfSome, IfNone};
 ghost use Rattle.head_grammar.specs.RequestLines as spec;
 
-use crate::{Refusal, classes};
+use crate::splits::place_of;
+use crate::targets::read_target;
+use crate::{Refusal, Version};
+use byte_tables::{is_digit, is_target, is_token};
 use outside::Bytes;
 use std::alloc::{AllocError, Global};
 
@@ -14,6 +15,8 @@ pub struct RequestLine {
     pub method: Bytes,
     pub target: Bytes,
     pub path: Bytes,
+    pub query: Bytes,
+    pub version: Version,
 }
 
 // The first part, and what stands behind the SP that ends it.
@@ -21,7 +24,7 @@ fn cut_part(line: &[u8]) -> Option<(&[u8], &[u8])>
     ensures cut { IfSome result (λ cut. spec.parts line.now ≡ cut.0.now ∷ spec.parts cut.1.now) }
     ensures whole { IfNone result (spec.parts line.now ≡ line.now ∷ []) }
 {
-    let at = classes::place_of(line, b' ')?;
+    let at = place_of(line, b' ')?;
     Some((&line[..at], &line[at + 1..]))
 }
 
@@ -40,54 +43,38 @@ fn three_parts(line: &[u8]) -> Option<(&[u8], &[u8], &[u8])>
 fn is_method(part: &[u8]) -> bool
     ensures { result ≡ spec.is_method part.now }
 {
-    part == b"GET".as_slice() || part == b"HEAD".as_slice()
+    part.iter()
+        .all(|byte| is_token(*byte) && !byte.is_ascii_lowercase())
 }
 
 fn is_version(part: &[u8]) -> bool
     ensures { result ≡ spec.is_version part.now }
 {
-    part == b"HTTP/1.0".as_slice()
+    part.len() == 8
+        && part.starts_with(b"HTTP/")
+        && is_digit(part[5])
+        && part[6] == b'.'
+        && is_digit(part[7])
 }
 
-fn are_target_bytes(bytes: &[u8]) -> bool
-    ensures { result ≡ list_all is_target_byte bytes.now }
+fn version_of(part: &[u8]) -> Version
+    ensures { result ≡ spec.version_of part.now }
 {
-    bytes.iter().all(|byte| classes::is_target_byte(*byte))
-}
-
-fn is_target(part: &[u8]) -> bool
-    ensures { result ≡ spec.is_target part.now }
-{
-    match part.split_first() {
-        None => false,
-        Some((first, rest)) => *first == b'/' && are_target_bytes(rest),
+    if part == b"HTTP/1.1".as_slice() {
+        Version::New
+    } else {
+        Version::Old
     }
 }
 
-fn other_than_slash(target: &[u8]) -> Option<usize>
-    ensures place { result ≡ position (λ b. not (b == 47)) target.now }
-    ensures within { IfSome result (λ at. at < length target.now) }
+fn is_request_target(part: &[u8]) -> bool
+    ensures { result ≡ spec.is_request_target part.now }
 {
-    target.iter().position(|byte| *byte != b'/')
-}
-
-fn slashes_in_front(target: &[u8]) -> usize
-    ensures count { result ≡ prefix_len (λ b. b == 47) target.now }
-    ensures within { result ≤ length target.now }
-{
-    other_than_slash(target).unwrap_or(target.len())
-}
-
-fn path_of(alloc: Global, target: &[u8]) -> Result<Bytes, AllocError>
-    ensures { IfOk result (λ path. path ≡ spec.path_of target.now) }
-{
-    let slashes = slashes_in_front(target);
-    let mut path = Vec::from_slice(alloc, b"/")?;
-    path.extend_from_slice(&target[slashes..])?;
-    Ok(Bytes::from_vec(path))
+    part.iter().all(|byte| is_target(*byte))
 }
 
 /// What a request line says, or its refusal.
+#[tactic(auto, unfolding(crate::specs::RequestLines::request_line))]
 pub fn read_request_line(
     alloc: Global,
     line: &[u8],
@@ -95,14 +82,26 @@ pub fn read_request_line(
     ensures { IfOk result (λ read. read ≡ spec.request_line line.now) }
 {
     let Some((method, target, version)) = three_parts(line) else {
-        return Ok(Err(Refusal::NotBuilt));
+        return Ok(Err(Refusal::RequestLine));
     };
-    if !is_method(method) || !is_version(version) || !is_target(target) {
-        return Ok(Err(Refusal::NotBuilt));
+    if method.is_empty() || target.is_empty() || version.is_empty() {
+        return Ok(Err(Refusal::RequestLine));
     }
+    if !is_method(method) {
+        return Ok(Err(Refusal::Method));
+    }
+    if !is_version(version) {
+        return Ok(Err(Refusal::Version));
+    }
+    if !is_request_target(target) {
+        return Ok(Err(Refusal::Target));
+    }
+    let (path, query) = read_target(alloc, target)?;
     Ok(Ok(RequestLine {
         method: Bytes::from_slice(alloc, method)?,
         target: Bytes::from_slice(alloc, target)?,
-        path: path_of(alloc, target)?,
+        path,
+        query,
+        version: version_of(version),
     }))
 }

@@ -1,10 +1,8 @@
 //! What a request head says.
-ghost use Rattle.std.specs.Prelude.{◌≡◌};
-ghost use Rattle.head_grammar.specs.Refusals.{code_of};
-
+use byte_tables::Refusal;
 use outside::{Bytes, Items};
 
-/// The version of a request: 1.0 or 1.1.
+/// The version by which a request is served: `New` is 1.1, and `Old` is every other.
 #[derive(Clone, Copy, Debug, PartialEq, Eq)]
 pub enum Version {
     Old,
@@ -43,24 +41,6 @@ pub struct Head {
     pub closes: bool,
     /// How many bytes the whole head has.
     pub size: u64,
-}
-
-/// Why a head is refused.
-#[derive(Clone, Copy, Debug, PartialEq, Eq)]
-pub enum Refusal {
-    /// What this server does not serve yet.
-    NotBuilt,
-}
-
-impl Refusal {
-    /// The status code of its response (RFC 9110, section 15).
-    pub fn code(&self) -> u16
-        ensures { result ≡ code_of self.now }
-    {
-        match self {
-            Refusal::NotBuilt => 501,
-        }
-    }
 }
 
 /// The verdict on a whole head.

@@ -7,6 +7,6 @@ use Rattle.head_grammar.proofs.verdict.read_head.Goals as goal
 pub slice_bounds-new-count : goal.slice_bounds-new-count
 slice_bounds-new-count c = let four = head_end-four c.args.bytes.now (length c.args.bytes.now) c.requires in omega arith
 
-pub returns : goal.returns
+pub returns-clause-verdict : goal.returns-clause-verdict
 unfolding verdict
-returns c = search rules
+returns-clause-verdict c = search rules
