@@ -1,5 +1,5 @@
 //! A list of bytes over a spill. All of them stand in memory so far.
-ghost use Rattle.std.specs.Prelude.{◌≡◌, ◌≢◌, ◌≤◌, ◌<◌, ◌↔◌, IsTrue, [], ◌++◌, length, take, drop, min, Err, IfOk, OnOk, OnErr};
+ghost use Rattle.std.specs.Prelude.{◌≡◌, ◌≢◌, ◌≤◌, ◌<◌, ◌+◌, ◌^◌, ◌↔◌, IsTrue, [], ◌++◌, length, take, drop, min, Err, IfOk, OnOk, OnErr};
 ghost use Rattle.spill_buffer.specs.Buffer.{IsToldAs, SpillCause};
 ghost use Rattle.spill_buffer.specs.declared.fault.BufferFault.TheVariants.{NoMemory};
 
@@ -54,6 +54,7 @@ impl<S: Spill> OverflowBuffer<S> {
             → length self.new.bytes < self.old.overflow
             → self.new.in_memory ≡ length self.new.bytes) }
         ensures memory_kept { OnErr result (self.new.in_memory ≡ self.old.in_memory) }
+        ensures grows { self.new.in_memory ≤ self.old.in_memory + length from.now }
         ensures overflow { self.new.overflow ≡ self.old.overflow }
     {
         self.drop_skipped();
@@ -123,6 +124,7 @@ impl<S: Spill> OverflowBuffer<S> {
     pub fn memory_len(&self) -> u64
         ensures count { result ≡ self.now.in_memory }
         ensures within { result ≤ length self.now.bytes }
+        ensures fits { result < 2 ^ 63 }
     {
         (self.bytes.len() - self.skipped) as u64
     }
