@@ -1,0 +1,35 @@
+use Rattle.std.proofs.Common.{◌≡◌, ◌∙◌, ap, ◌++◌, subst, true, []}
+use Rattle.std.specs.Prelude.{map, IfOk}
+use Rattle.request_stream.specs.Asks.{asks}
+use Rattle.request_stream.specs.Story.{Story}
+use Rattle.request_stream.specs.Units.{stamped}
+use Rattle.request_stream.proofs.StoryLemmas.{adds_of, dead_of, last_of, over_of, read_of}
+use Rattle.request_stream.proofs.stream.Stream.feed.Goals as goal
+
+pub returns-clause-fed : goal.returns-clause-fed
+returns-clause-fed g c =
+    c.tell.ensures ∙ (ap (λ t. t.value ++ stamped c.args.now c.args.piece.now) c.of.ensures ∙ ap (λ (s : Story). s.fed ++ stamped c.args.now c.args.piece.now) c.self.view_is)
+
+pub returns-clause-units : goal.returns-clause-units
+returns-clause-units g c = λ t.
+    adds_of (λ us. us.items) c.read.result c.args.self.now c.self.inside.limits c.self.inside.state _ c.self.inside.fed.value c.tell.result.value _ c.self.view_is c.self.invariant.positive.head
+    (c.tell.ensures ∙ ap (λ t. t.value ++ stamped c.args.now c.args.piece.now) c.of.ensures) (c.self.invariant.read t) (c.read.ensures.reads t)
+
+pub returns-clause-last : goal.returns-clause-last
+returns-clause-last g c = λ t.
+    last_of (λ us. us.items) c.read.result c.args.self.now c.self.inside.limits c.self.inside.state _ c.self.inside.fed.value _ c.self.view_is (c.self.invariant.read t) (c.read.ensures.reads t) c.read.ensures.none
+
+pub invariant_of-self : goal.invariant_of-self
+invariant_of-self g c = record {
+  positive = c.self.invariant.positive;
+  sound = c.read.ensures.sound;
+  read = λ t.
+      read_of (λ us. map asks us.items) c.read.result c.self.inside.limits c.self.inside.state c.read.new.state c.self.inside.fed.value c.tell.result.value _
+      (c.tell.ensures ∙ ap (λ t. t.value ++ stamped c.args.now c.args.piece.now) c.of.ensures) (c.self.invariant.read t) (c.read.ensures.reads t) c.read.ensures.kept c.read.ensures.fault;
+}
+
+pub returns-clause-dead : goal.returns-clause-dead
+returns-clause-dead g c = dead_of (λ us. us.items) c.read.result c.args.self.now c.self.inside.limits c.self.inside.state _ c.self.inside.fed.value c.self.view_is c.read.ensures.shuts c.read.ensures.none
+
+pub returns-clause-over : goal.returns-clause-over
+returns-clause-over g c = over_of (λ us. us.items) c.read.result c.args.self.now c.self.inside.limits c.self.inside.state _ c.self.inside.fed.value c.self.view_is c.read.ensures.shuts

@@ -1,0 +1,11 @@
+use Rattle.std.proofs.Common.{sym, subst}
+use Rattle.request_stream.specs.Reading.{HasRead}
+use Rattle.request_stream.proofs.RunLemmas.{read_none}
+use Rattle.request_stream.proofs.stream.Stream.new.Goals as goal
+
+pub invariant_of-result : goal.invariant_of-result
+invariant_of-result g c = record {
+  positive = c.requires;
+  sound = λ _. c.start.ensures.sound c.args.limits c.requires.head;
+  read = λ _ _. subst (HasRead c.args.limits c.start.result) (sym c.tell.ensures) (read_none c.args.limits c.start.result c.requires.head c.start.ensures.goes);
+}

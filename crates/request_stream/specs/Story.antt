@@ -1,0 +1,22 @@
+-- A stream by all the bytes that it was fed.
+use Rattle.std.specs.Prelude.{◌≡◌, ℕ, List, Bool, false, IsTrue}
+use Rattle.request_stream.specs.Reading.{ArePositive, IsSound, HasRead, is_failed}
+use Rattle.request_stream.specs.declared.state.State.{State}
+use Rattle.request_stream.specs.declared.types.Limits.{Limits}
+
+pub record Story : Type 0 where
+  pub limits : Limits
+  -- all bytes, each with its moment
+  pub fed : List (ℕ × ℕ)
+  -- whether a fault was met
+  pub failed : Bool
+  -- whether a unit that closes was given
+  pub over : Bool
+  -- how many bytes of the unit under way stand in memory
+  pub held : ℕ
+
+-- what holds of each stream
+pub record Keeps {S : Type 0} (tells : Bool) (limits : Limits) (state : State S) (fed : List (ℕ × ℕ)) : Type 0 where
+  pub positive : ArePositive limits
+  pub sound : is_failed state ≡ false → IsSound limits state
+  pub read : IsTrue tells → is_failed state ≡ false → HasRead limits state fed
