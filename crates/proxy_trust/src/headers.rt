@@ -1,0 +1,79 @@
+//! The proxy headers, and which of them are used.
+ghost use Rattle.std.specs.Prelude.{◌≡◌};
+ghost use Rattle.proxy_trust.specs.Headers as spec;
+ghost use Rattle.proxy_trust.specs.Rules as rule;
+
+use crate::ProxyRules;
+use head_grammar::Field;
+use outside::{Bytes, Kind, Peer};
+
+/// The name of a kind's header, in lower case.
+pub fn name_of(kind: Kind) -> &'static [u8]
+    ensures { result.now ≡ spec.name_of kind }
+{
+    match kind {
+        Kind::Forwarded => b"forwarded",
+        Kind::For => b"x-forwarded-for",
+        Kind::Host => b"x-forwarded-host",
+        Kind::Proto => b"x-forwarded-proto",
+        Kind::Port => b"x-forwarded-port",
+        Kind::By => b"x-forwarded-by",
+    }
+}
+
+const KINDS: [Kind; 6] = [
+    Kind::Forwarded,
+    Kind::For,
+    Kind::Host,
+    Kind::Proto,
+    Kind::Port,
+    Kind::By,
+];
+
+/// Whether a name is that of a proxy header.
+pub fn is_proxy_name(name: &[u8]) -> bool
+    ensures { result ≡ spec.is_proxy_name name.now }
+{
+    KINDS.iter().any(|kind| name == name_of(*kind))
+}
+
+/// Whether a kind stands in the list.
+pub fn is_listed(kind: Kind, kinds: &[Kind]) -> bool
+    ensures { result ≡ spec.is_listed kind kinds.now }
+{
+    kinds.contains(&kind)
+}
+
+fn value_of<'a>(name: &[u8], fields: &'a [Field]) -> Option<&'a [u8]>
+    ensures { spec.shown result ≡ spec.value_of name.now fields.now }
+{
+    let field = fields.iter().find(|field| field.name.as_slice() == name)?;
+    Some(field.value.as_slice())
+}
+
+fn is_proxy(proxy: &Option<Bytes>, address: &[u8]) -> bool
+    ensures { result ≡ rule.is_proxy proxy.now address.now }
+{
+    match proxy {
+        None => false,
+        Some(proxy) => proxy.as_slice() == b"*".as_slice() || proxy.as_slice() == address,
+    }
+}
+
+/// The value of a header that is used: of the first field of its name.
+pub fn used<'a>(
+    rules: &ProxyRules,
+    peer: &Peer,
+    fields: &'a [Field],
+    kind: Kind,
+) -> Option<&'a [u8]>
+    ensures { spec.shown result
+        ≡ rule.used rules.now peer.now fields.now kind }
+{
+    let believed = is_proxy(&rules.proxy, peer.addr.as_slice())
+        && is_listed(kind, rules.kinds.as_slice());
+    if !believed {
+        return None;
+    }
+    value_of(name_of(kind), fields)
+}

@@ -1,0 +1,20 @@
+//! What a server believes of the headers in which proxies tell what they were asked: the
+//! `X-Forwarded-` family, for which `Forwarded` (RFC 7239) is the standard's name.
+#![tactic(auto)]
+
+mod cuts;
+mod endpoint;
+mod headers;
+mod keeping;
+mod lists;
+mod reading;
+#[cfg(test)]
+mod shown;
+#[cfg(test)]
+mod tests;
+mod trusting;
+mod types;
+mod values;
+
+pub use trusting::trust;
+pub use types::{ProxyFault, ProxyRules, Trusted};
