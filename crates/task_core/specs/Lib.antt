@@ -1,0 +1,11 @@
+pub mod Answer
+pub mod Errors
+pub mod Fields
+pub mod HopByHop
+pub mod Remaining
+pub mod ResponseHead
+pub mod Scripts
+pub mod Sending
+pub mod Starts
+pub mod Steps
+pub mod Validity
