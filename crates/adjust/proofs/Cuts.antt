@@ -1,0 +1,71 @@
+-- A list that is cut at each element that passes a test.
+use Rattle.std.proofs.Common.{◌≡◌, ◌≤◌, ◌<◌, ◌+◌, ◌-◌, ◌∙◌, ℕ, Bool, true, false, List, [], ◌∷◌, length, take, drop, None, Some, refl, ap, sym, subst, cond, arith}
+use Rattle.std.specs.Prelude.{not, nat_lt, position}
+use Rattle.std.specs.List.{filter, slice_split, onto_first, position_or_len}
+use Rattle.std.proofs.lemmas.Bool.{lt-ltb, ltb-true, ltb-false}
+use Rattle.std.proofs.lemmas.List.{length-drop, take_all}
+use Rattle.std.proofs.lemmas.List.Splits.{slice_split_first}
+use Rattle.adjust.specs.Lists.{has_bytes, is_separator, onto_parts, parts}
+
+module _ (p : ℕ → Bool) where
+  by_test : (t : Bool) (n k : ℕ) → cond t (Some n) None ≡ Some k → (t ≡ true) × (n ≡ k)
+  by_test true n k e = let same : n ≡ k = cc in (refl, same)
+  by_test false n k e = cc
+
+  by_no_test : (t : Bool) (n : ℕ) → cond t (Some n) None ≡ None → t ≡ false
+  by_no_test true n e = cc
+  by_no_test false n e = refl
+
+  -- the first part ends at the place of the first such element
+  cut_some : (xs : List ℕ) (k : ℕ) → position p xs ≡ Some k → slice_split p xs ≡ take k xs ∷ slice_split p (drop (k + 1) xs)
+  cut_some xs k e =
+      let found = by_test (nat_lt (position_or_len p xs) (length xs)) (position_or_len p xs) k e in
+      subst (λ n. slice_split p xs ≡ take n xs ∷ slice_split p (drop (n + 1) xs)) found.1 (slice_split_first p xs 0 (ltb-true _ _ found.0))
+
+  whole_by : (t : Bool) (x : ℕ) (xs : List ℕ) (n : ℕ) → (length xs ≤ n → slice_split p xs ≡ xs ∷ []) → length (x ∷ xs) ≤ cond t 0 (1 + n) →
+      cond t ([] ∷ slice_split p xs) (onto_first x (slice_split p xs)) ≡ (x ∷ xs) ∷ []
+  whole_by true x xs n ih l = absurd (omega arith)
+  whole_by false x xs n ih l = ap (onto_first x) (ih (omega arith))
+
+  first_step : (t : Bool) (n : ℕ) → cond (not t) (1 + n) 0 ≡ cond t 0 (1 + n)
+  first_step true n = refl
+  first_step false n = refl
+
+  whole_if : (xs : List ℕ) → length xs ≤ position_or_len p xs → slice_split p xs ≡ xs ∷ []
+  whole_if [] l = refl
+  whole_if (x ∷ xs) l = whole_by (p x) x xs (position_or_len p xs) (whole_if xs) (subst (λ n. length (x ∷ xs) ≤ n) (first_step (p x) (position_or_len p xs)) l)
+
+  -- without such an element the list is one part
+  cut_none : (xs : List ℕ) → position p xs ≡ None → slice_split p xs ≡ xs ∷ []
+  cut_none xs e = whole_if xs (ltb-false (position_or_len p xs) (length xs) (by_no_test (nat_lt (position_or_len p xs) (length xs)) (position_or_len p xs) e))
+
+-- the slice of a text from a place on
+rest_is : (text : List ℕ) (start : ℕ) → take (length text - start) (drop start text) ≡ drop start text
+rest_is text start = take_all (length text - start) (drop start text) (let l = length-drop start text in omega arith)
+
+pub parts-nil : (commas : Bool) → parts commas [] ≡ []
+unfolding parts
+parts-nil commas = refl
+
+pub parts_cut : (commas : Bool) (text : List ℕ) (k : ℕ) → position (is_separator commas) text ≡ Some k →
+    parts commas text ≡ onto_parts (take k text) (parts commas (take (length text - (k + 1)) (drop (k + 1) text)))
+unfolding parts
+parts_cut commas text k e =
+    ap (filter has_bytes) (cut_some (is_separator commas) text k e)
+    ∙ ap (λ xs. onto_parts (take k text) (filter has_bytes (slice_split (is_separator commas) xs))) (sym (rest_is text (k + 1)))
+
+pub parts_whole : (commas : Bool) (text : List ℕ) → position (is_separator commas) text ≡ None →
+    parts commas text ≡ onto_parts text (parts commas [])
+unfolding parts
+parts_whole commas text e = ap (filter has_bytes) (cut_none (is_separator commas) text e)
+
+pub parts_none : (commas : Bool) (text : List ℕ) → length text ≡ 0 → parts commas text ≡ []
+parts_none commas [] e = parts-nil commas
+parts_none commas (b ∷ bs) e = absurd (omega arith)
+
+pub onto_some : (part : List ℕ) (rest : List (List ℕ)) → 0 < length part → onto_parts part rest ≡ part ∷ rest
+onto_some part rest some = ap (λ t. cond t (part ∷ rest) rest) (lt-ltb 0 (length part) some)
+
+pub onto_none : (part : List ℕ) (rest : List (List ℕ)) → length part ≡ 0 → onto_parts part rest ≡ rest
+onto_none [] rest e = refl
+onto_none (b ∷ bs) rest e = absurd (omega arith)

@@ -1,0 +1,10 @@
+-- The number that the digits so far write.
+use Rattle.std.proofs.Common.{◌≡◌, ◌<◌, take}
+use Rattle.std.specs.Str.Parse.{digits_value}
+use Rattle.adjust.proofs.values.number_of_digits.Given as goal
+
+abbrev pub invariant-loop-digit : goal.invariant-loop-digit
+invariant-loop-digit l = record {
+  value : l.number ≡ digits_value 10 (take l.digit-index l.digits);
+  small : l.number < 18446744073709551616;
+}

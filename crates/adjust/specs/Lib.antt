@@ -1,0 +1,6 @@
+pub mod Command
+pub mod CommandLine
+pub mod Lists
+pub mod Options
+pub mod Texts
+pub mod Values

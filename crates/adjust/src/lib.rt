@@ -1,0 +1,23 @@
+//! The options of the server, and what the words of a command line ask for.
+#![tactic(auto)]
+
+mod addresses;
+mod classes;
+mod command;
+mod definition;
+mod faults;
+mod given;
+mod kinds;
+mod options;
+mod parts;
+mod shown;
+#[cfg(test)]
+mod tests;
+mod texts;
+mod types;
+mod values;
+
+pub use command::read;
+pub use shown::check_text;
+pub use texts::{fault_text, help_text};
+pub use types::{Adjustments, AppName, Command, UsageFault};
