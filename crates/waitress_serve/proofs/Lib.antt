@@ -1,13 +1,8 @@
-mod Arriving
-mod EchoAnswer
-pub mod Lines
-mod LinkLemmas
-mod PendingLemmas
+mod Answering
 mod Pieces
 mod Polling
+mod Respond
 mod ServingLemmas
-pub mod Sorted
 mod TextLemmas
 mod Timely
-pub mod Whole
 mod Words

@@ -148,8 +148,8 @@ nobody_only old new e =
 
 -- a turn that told to stop
 pub turn_stops : {L P : Type 0} (wants : List Want) (accepting : Bool) (turn : Turn) (old mid new : NetState L P) →
-    old.polls ≤ mid.polls → TellsTurn wants accepting turn mid new → IsTrue turn.stop → Stops old new
-turn_stops wants accepting turn old mid new before h stop =
+    old.polls ≤ mid.polls → mid.quiet ≡ old.quiet → TellsTurn wants accepting turn mid new → IsTrue turn.stop → Stops old new
+turn_stops wants accepting turn old mid new before same h stop =
     let e = h.state in
     let polls : new.polls ≡ raised mid.polls = ap (λ s. s.polls) e in
     let rose : raised old.polls ≤ new.polls = omega arith in
@@ -157,10 +157,11 @@ turn_stops wants accepting turn old mid new before h stop =
     record {
       told = record { polled = rose; stopped = ap (λ s. s.stopped) e ∙ stop };
       last = subst (λ l. IsSomeAnd l (λ poll. IsTrue poll.turn.stop × (poll.given ≡ new.given))) (sym last) (stop, sym (ap (λ s. s.given) e));
+      empty = λ quiet. subst (λ l. IsSomeAnd l (λ poll. poll.live ≡ 0)) (sym last) (h.quiet (subst IsTrue (sym same) quiet) stop);
     }
 
-pub stops_from : {L P : Type 0} (old mid new : NetState L P) → old.polls ≤ mid.polls → Stops mid new → Stops old new
-stops_from old mid new before h =
+pub stops_from : {L P : Type 0} (old mid new : NetState L P) → old.polls ≤ mid.polls → mid.quiet ≡ old.quiet → Stops mid new → Stops old new
+stops_from old mid new before same h =
     let rose : raised mid.polls ≤ new.polls = h.told.polled in
     let more : raised old.polls ≤ new.polls = omega arith in
-    record { told = record { polled = more; stopped = h.told.stopped }; last = h.last }
+    record { told = record { polled = more; stopped = h.told.stopped }; last = h.last; empty = λ quiet. h.empty (subst IsTrue (sym same) quiet) }

@@ -1,10 +1,11 @@
 -- What an exchange and its retirement leave of the net.
 use Rattle.std.proofs.Common.{◌≡◌, ◌≤◌, ◌+◌, ◌-◌, ◌⊎◌, inl, inr, ℕ, Bool, true, false, IsTrue, List, [], ◌∷◌, ◌++◌, length, map, refl, ap, sym, subst, ◌∙◌, arith, append_assoc, append-nil, length-append}
-use Rattle.std.specs.Prelude.{IsSomeAnd, ◌&&◌}
+use Rattle.std.specs.Prelude.{IsSomeAnd, filter, ◌&&◌}
 use Rattle.std.specs.List.{AllByRecursion}
 use Rattle.std.proofs.lemmas.List.{map-append}
+use Rattle.std.proofs.lemmas.List.Elements.{filter-append}
 use Rattle.std.proofs.lemmas.List.Sorted.{IsPermutation-refl}
-use Rattle.outside.specs.Causes.{raised}
+use Rattle.outside.specs.Causes.{added, raised}
 use Rattle.outside.specs.Link.{LinkState}
 use Rattle.outside.specs.Net.{NetState, TellsTurn, GivesLink}
 use Rattle.outside.specs.declared.types.Turn.{Turn}
@@ -14,35 +15,74 @@ use Rattle.outside.specs.declared.types.End.{End}
 use Rattle.outside.specs.declared.types.End.TheVariants as over
 use Rattle.outside.specs.declared.types.Peer.{Peer}
 use Rattle.waitress_serve.specs.declared.outcome.Outcome.{Outcome}
-use Rattle.waitress_serve.specs.declared.outcome.Outcome.TheVariants.{Done, LinkFault, NoMemory, Stopped, PollFailed}
-use Rattle.waitress_serve.specs.Connection.{IsPartlyAnswered, IsAnswered, Leaves, LinkFaults, LastKnows, OnlyPolls, OutcomeStops, PollFaults}
-use Rattle.waitress_serve.specs.Headline.{EntryHolds, EndCause, Added, IsTimely, RetiresGiven, ShutLast}
-use Rattle.waitress_serve.specs.Output.{responses, has_closed}
+use Rattle.waitress_serve.specs.declared.outcome.Outcome.TheVariants.{Over, Stopped, PollFailed}
+use Rattle.waitress_serve.specs.declared.outcome.Ending.{Ending}
+use Rattle.waitress_serve.specs.declared.outcome.Ending.TheVariants.{Done, LinkFault, SpillFault, NoMemory}
+use Rattle.waitress_serve.specs.declared.settings.Settings.{Settings}
+use Rattle.waitress_serve.specs.Connection.{IsPartlyAnswered, IsAnswered, Leaves, LastKnows, OnlyPolls, OutcomeFaults, OutcomeLeaves, OutcomeSpills, OutcomeStops, PollFaults, Stops}
+use Rattle.waitress_serve.specs.Headline.{EntryHolds, EndCause, Added, IsTimely, RetiresGiven, ServesAll, SettlesSpills, ShutLast, is_spill_fault, spill_faults}
+use Rattle.waitress_serve.specs.Output.{Input, responses, has_closed}
 use Rattle.waitress_serve.specs.Serving.{end_of, going_of, IsDown, RetiresOne, Serves, Served, GoesPolls, GoesStops}
 use Rattle.waitress_serve.specs.Status.{ToldStop}
-use Rattle.waitress_serve.specs.Units.{Input}
 use Rattle.waitress_serve.proofs.Polling.{knows_same, time_same, time_trans}
 
-served_prefix : (link : LinkState) → IsAnswered link → IsPartlyAnswered link
-served_prefix link h = record { rest = []; whole = sym h.whole ∙ sym (append-nil link.sent) }
+module _ (settings : Settings) (peer : Peer) where
+  served_prefix : (link : LinkState) → IsAnswered settings peer link → IsPartlyAnswered settings peer link
+  served_prefix link h = record { rest = []; whole = sym h.whole ∙ sym (append-nil link.sent) }
 
-module _ {L P : Type 0} (tells : Bool) (state : L → LinkState) (faults : L → ℕ) (net : NetState L P) (link : L) (peer : Peer)
+  leaves_prefix : (ending : Ending) (link : LinkState) → Leaves settings peer ending link → IsPartlyAnswered settings peer link
+  leaves_prefix Done link h = served_prefix link h
+  leaves_prefix LinkFault link h = h
+  leaves_prefix SpillFault link h = h
+  leaves_prefix NoMemory link h = h
+
+  outcome_prefix : (outcome : Outcome) (link : LinkState) → OutcomeLeaves settings peer outcome link → IsPartlyAnswered settings peer link
+  outcome_prefix (Over ending) link h = leaves_prefix ending link h
+  outcome_prefix Stopped link h = h
+  outcome_prefix PollFailed link h = h
+
+  outcome_cause : (tells : Bool) (outcome : Outcome) (link : LinkState) (before now : ℕ) → before ≡ 0 → (IsTrue tells → OutcomeLeaves settings peer outcome link) → OutcomeFaults outcome before now →
+      EndCause tells link now (responses settings peer link.arrivals) (has_closed settings peer link.arrivals) (IsDown (going_of outcome)) (end_of outcome)
+  outcome_cause tells (Over Done) link before now z t c = t
+  outcome_cause tells (Over LinkFault) link before now z t c = let r : raised before ≤ now = c in omega (arith, r, z)
+  outcome_cause tells (Over SpillFault) link before now z t c = tt
+  outcome_cause tells (Over NoMemory) link before now z t c = tt
+  outcome_cause tells Stopped link before now z t c = tt
+  outcome_cause tells PollFailed link before now z t c = tt
+
+module _ {L P : Type 0} (settings : Settings) (tells : Bool) (state : L → LinkState) (faults : L → ℕ) (net : NetState L P) (link : L) (peer : Peer)
     (timely : IsTrue tells → IsTimely net (state link)) where
   -- what an exchange leaves is what is owed to its entry
-  pub outcome_holds : (outcome : Outcome) (before : ℕ) → before ≡ 0 → (IsTrue tells → Leaves outcome (state link)) → LinkFaults outcome before (faults link) →
-      EntryHolds tells state faults net (λ _ x. responses x) (λ _ x. has_closed x) (IsDown (going_of outcome)) (record { peer = peer; link = link; end = end_of outcome })
-  outcome_holds Done before z t c = record { prefix = λ told. served_prefix (state link) (t told); timely = timely; cause = t }
-  outcome_holds LinkFault before z t c = record { prefix = t; timely = timely; cause = let r : raised before ≤ faults link = c in omega (arith, r, z) }
-  outcome_holds NoMemory before z t c = record { prefix = t; timely = timely; cause = tt }
-  outcome_holds Stopped before z t c = record { prefix = t; timely = timely; cause = tt }
-  outcome_holds PollFailed before z t c = record { prefix = t; timely = timely; cause = tt }
+  pub outcome_holds : (outcome : Outcome) (before : ℕ) → before ≡ 0 → (IsTrue tells → OutcomeLeaves settings peer outcome (state link)) → OutcomeFaults outcome before (faults link) →
+      EntryHolds tells state faults net (responses settings) (has_closed settings) (IsDown (going_of outcome)) (record { peer = peer; link = link; end = end_of outcome })
+  outcome_holds outcome before z t c = record {
+    prefix = λ told. outcome_prefix settings peer outcome (state link) (t told);
+    timely = timely;
+    cause = outcome_cause settings peer tells outcome (state link) before (faults link) z t c;
+  }
+
+-- the counts of the spills behind an exchange
+pub outcome_spilled : {L : Type 0} (peer : Peer) (link : L) (outcome : Outcome) (before now : ℕ) → OutcomeSpills outcome before now →
+    added before (spill_faults (record { peer = peer; link = link; end = end_of outcome } ∷ [])) ≤ now
+outcome_spilled peer link (Over Done) before now h = omega (arith, h)
+outcome_spilled peer link (Over LinkFault) before now h = omega (arith, h)
+outcome_spilled peer link (Over SpillFault) before now h = let r : raised before ≤ now = h in omega (arith, r)
+outcome_spilled peer link (Over NoMemory) before now h = omega (arith, h)
+outcome_spilled peer link Stopped before now h = omega (arith, h)
+outcome_spilled peer link PollFailed before now h = omega (arith, h)
+
+-- more entries, and the counts behind them
+spilled_more : {L : Type 0} (before mid now : ℕ) (xs ys : List (Retired L)) → added before (spill_faults xs) ≤ mid → added mid (spill_faults ys) ≤ now → added before (spill_faults (xs ++ ys)) ≤ now
+spilled_more before mid now xs ys h k =
+    let sum : spill_faults (xs ++ ys) ≡ spill_faults xs + spill_faults ys = ap length (filter-append (λ e. is_spill_fault e.end) xs ys) ∙ length-append (filter (λ e. is_spill_fault e.end) xs) (filter (λ e. is_spill_fault e.end) ys) in
+    omega (arith, sum, h, k)
 
 -- a link is retired behind its exchange
-pub retires_one : {L P : Type 0} (Holds : Retired L → Type 0) (plan : L → P) (old mid new : NetState L P) (peer : Peer) (made : P) (link : L) (end : End) →
+pub retires_one : {L P : Type 0} (Holds : Retired L → Type 0) (plan : L → P) (before now : ℕ) (old mid new : NetState L P) (peer : Peer) (made : P) (link : L) (end : End) →
     OnlyPolls old mid → 1 ≤ old.live → plan link ≡ made →
     new ≡ record mid { closed = mid.closed ++ record { peer = peer; link = link; end = end } ∷ []; live = mid.live - 1 } →
-    Holds (record { peer = peer; link = link; end = end }) → RetiresOne Holds plan peer made old new
-retires_one Holds plan old mid new peer made link end k some same e h =
+    Holds (record { peer = peer; link = link; end = end }) → added before (spill_faults (record { peer = peer; link = link; end = end } ∷ [])) ≤ now → RetiresOne Holds plan peer made before now old new
+retires_one Holds plan before now old mid new peer made link end k some same e h spilled =
     let l = ap (λ s. s.live) e in
     let m = k.live in
     let p = ap (λ s. s.polls) e in
@@ -54,6 +94,7 @@ retires_one Holds plan old mid new peer made link end k some same e h =
       holds = h;
       peer_is = refl;
       made_is = same;
+      spilled = spilled;
       live = omega arith;
       bound = ap (λ s. s.bound) e ∙ k.bound;
       quiet = ap (λ s. s.quiet) e ∙ k.quiet;
@@ -71,9 +112,10 @@ pub all_map : {E : Type 0} (Holds Also : E → Type 0) → ((e : E) → Holds e 
 all_map Holds Also f [] h = tt
 all_map Holds Also f (x ∷ xs) h = (f x h.0, all_map Holds Also f xs h.1)
 
-pub serves_none : {L P : Type 0} (Holds : Retired L → Type 0) (plan : L → P) (net : NetState L P) → Serves Holds plan net net
-serves_none Holds plan net = record {
+pub serves_none : {L P : Type 0} (Holds : Retired L → Type 0) (plan : L → P) (count : ℕ) (net : NetState L P) → Serves Holds plan count count net net
+serves_none {L} Holds plan count net = record {
   retires = record { entries = []; closed = sym (append-nil net.closed); each = tt; given = sym (append-nil net.given) };
+  spilled = let none : spill_faults {L = L} [] ≡ 0 = refl in omega (arith, none);
   live = refl;
   bound = refl;
   quiet = refl;
@@ -93,14 +135,15 @@ one_less net k = let less : net.live ≤ net.live + 1 = omega arith in knows_les
 none_more : {L P : Type 0} (net : NetState L P) → LastKnows net → LastKnows (record net { live = net.live + length {A = Retired L} [] })
 none_more net k = let less : net.live + 0 ≤ net.live = omega arith in knows_less net (net.live + 0) less k
 
-pub serves_polls : {L P : Type 0} (Holds Also : Retired L → Type 0) (plan : L → P) (old mid new : NetState L P) →
-    ((e : Retired L) → Holds e → Also e) → Serves Holds plan old mid → OnlyPolls mid new → Serves Also plan old new
-serves_polls Holds Also plan old mid new later s k =
+pub serves_polls : {L P : Type 0} (Holds Also : Retired L → Type 0) (plan : L → P) (before now : ℕ) (old mid new : NetState L P) →
+    ((e : Retired L) → Holds e → Also e) → Serves Holds plan before now old mid → OnlyPolls mid new → Serves Also plan before now old new
+serves_polls Holds Also plan before now old mid new later s k =
     let r = s.retires in
     let p = s.polls in
     let q = k.polls in
     record {
       retires = record { entries = r.entries; closed = k.closed ∙ r.closed; each = all_map Holds Also later r.entries r.each; given = k.given ∙ r.given };
+      spilled = s.spilled;
       live = k.live ∙ s.live;
       bound = k.bound ∙ s.bound;
       quiet = k.quiet ∙ s.quiet;
@@ -109,15 +152,16 @@ serves_polls Holds Also plan old mid new later s k =
     }
 
 -- serving ends while no connection is open
-pub served_now : {L P : Type 0} (Holds Last : Retired L → Type 0) (plan : L → P) (old new : NetState L P) →
-    Serves Holds plan old new → Served Holds Last plan old new
-served_now Holds Last plan old new s =
+pub served_now : {L P : Type 0} (Holds Last : Retired L → Type 0) (plan : L → P) (count now : ℕ) (old new : NetState L P) →
+    Serves Holds plan count now old new → Served Holds Last plan count now old new
+served_now Holds Last plan count now old new s =
     let r = s.retires in
     let whole : r.entries ≡ r.entries ++ [] = sym (append-nil r.entries) in
     record {
       before = r.entries;
       after = [];
       closed = r.closed ∙ ap (λ es. old.closed ++ es) whole;
+      spilled = subst (λ es. added count (spill_faults es) ≤ now) whole s.spilled;
       each = r.each;
       last = tt;
       given = r.given ∙ ap (λ es. old.given ++ map (λ e. (e.peer, plan e.link)) es) whole;
@@ -158,7 +202,7 @@ module _ {L P : Type 0} (plan : L → P) (old mid turned came new : NetState L P
         open' = omega (arith, given, sum, live);
       }
 
-  module _ (Holds Also Here : Retired L → Type 0) (later : (e : Retired L) → Holds e → Also e) (s : Serves Holds plan old mid) (one : RetiresOne Here plan peer made came new) where
+  module _ (Holds Also Here : Retired L → Type 0) (later : (e : Retired L) → Holds e → Also e) (first before now : ℕ) (s : Serves Holds plan first before old mid) (one : RetiresOne Here plan peer made before now came new) where
     closed_more : new.closed ≡ old.closed ++ (s.retires.entries ++ one.entry ∷ [])
     closed_more =
         one.closed ∙ (ap (λ xs. xs ++ one.entry ∷ []) (came_closed ∙ s.retires.closed) ∙ append_assoc old.closed s.retires.entries (one.entry ∷ []))
@@ -195,9 +239,10 @@ module _ {L P : Type 0} (plan : L → P) (old mid turned came new : NetState L P
         omega arith
 
     -- serving goes on
-    pub serves_more : (Here one.entry → Also one.entry) → Serves Also plan old new
+    pub serves_more : (Here one.entry → Also one.entry) → Serves Also plan first now old new
     serves_more same = record {
       retires = record { entries = s.retires.entries ++ one.entry ∷ []; closed = closed_more; each = all_append Also s.retires.entries (one.entry ∷ []) (all_map Holds Also later s.retires.entries s.retires.each) (same one.holds, tt); given = given_more };
+      spilled = spilled_more first before now s.retires.entries (one.entry ∷ []) s.spilled one.spilled;
       live = live_same;
       bound = bound_same;
       quiet = quiet_same;
@@ -206,11 +251,12 @@ module _ {L P : Type 0} (plan : L → P) (old mid turned came new : NetState L P
     }
 
     -- serving ends, and the link was shut down
-    pub served_last : Served Also Here plan old new
+    pub served_last : Served Also Here plan first now old new
     served_last = record {
       before = s.retires.entries;
       after = one.entry ∷ [];
       closed = closed_more;
+      spilled = spilled_more first before now s.retires.entries (one.entry ∷ []) s.spilled one.spilled;
       each = all_map Holds Also later s.retires.entries s.retires.each;
       last = (one.holds, tt);
       given = given_more;
@@ -240,33 +286,44 @@ module _ {L P : Type 0} (strong weak : Bool) (state : L → LinkState) (faults :
     cause = weaker_end (state entry.link) (faults entry.link) (output entry.peer (state entry.link).arrivals) (closes entry.peer (state entry.link).arrivals) entry.end h.cause;
   }
 
-and_first : (a b : Bool) → IsTrue (a && b) → IsTrue a
-and_first true b h = refl
-and_first false b h = h
+pub and_both : (a b : Bool) → IsTrue (a && b) → IsTrue a × IsTrue b
+and_both true b h = (refl, h)
+and_both false b h = cc
 
 no_shut_down : (tells : Bool) (link : LinkState) (count : ℕ) (text : List ℕ) (closed : Bool) (end : End) → EndCause tells link count text closed ⊥ end → end ≡ over.ShutDown → ⊥
 no_shut_down tells link count text closed over.Done h e = cc
 no_shut_down tells link count text closed over.LinkFault h e = cc
 no_shut_down tells link count text closed over.NoMemory h e = cc
 no_shut_down tells link count text closed over.ShutDown h e = h
-no_shut_down tells link count text closed over.SpillFault h e = h
+no_shut_down tells link count text closed over.SpillFault h e = cc
 no_shut_down tells link count text closed over.AppFault h e = h
 no_shut_down tells link count text closed (over.TimedOut touched now) h e = h
 
+all_nothing : {E : Type 0} (Holds : E → Type 0) (xs : List E) → length xs ≡ 0 → AllByRecursion Holds xs
+all_nothing Holds [] none = tt
+all_nothing Holds (x ∷ xs) none = absurd (omega (arith, none))
+
+none_behind : {E : Type 0} (old xs ys : List E) → old ++ (xs ++ ys) ≡ old → length ys ≡ 0
+none_behind old xs ys e =
+    let whole = ap length e in
+    let outer = length-append old (xs ++ ys) in
+    let inner = length-append xs ys in
+    omega (arith, whole, outer, inner)
+
 -- What is concluded of serving that ended, in the words of the top call, which began with first.
-module _ {L P : Type 0} (told others : Bool) (state : L → LinkState) (faults : L → ℕ) (output : Peer → Input → List ℕ) (closes : Peer → Input → Bool) (plan : L → P) (first old new : NetState L P)
+module _ {L P : Type 0} (told weak : Bool) (weaker : IsTrue weak → IsTrue told) (state : L → LinkState) (faults : L → ℕ) (output : Peer → Input → List ℕ) (closes : Peer → Input → Bool) (plan : L → P) (first old new : NetState L P)
     (closed_is : old.closed ≡ first.closed) (live_is : old.live ≡ first.live) (given_is : old.given ≡ first.given)
-    (s : Served (EntryHolds told state faults new output closes ⊥) (EntryHolds told state faults new output closes (Unit {0})) plan old new) where
+    (count now : ℕ) (s : Served (EntryHolds told state faults new output closes ⊥) (EntryHolds told state faults new output closes (Unit {0})) plan count now old new) where
   all_closed : new.closed ≡ first.closed ++ (s.before ++ s.after)
   all_closed = s.closed ∙ ap (λ xs. xs ++ (s.before ++ s.after)) closed_is
 
-  pub added_down : (down : Type 0) → down → Added (EntryHolds (told && others) state faults new output closes down) first.closed new.closed
+  pub added_down : (down : Type 0) → down → Added (EntryHolds weak state faults new output closes down) first.closed new.closed
   added_down down d = record {
     entries = s.before ++ s.after;
     whole = all_closed;
     each = all_append _ s.before s.after
-        (all_map _ _ (weaker_entry told (told && others) state faults new output closes ⊥ down (and_first told others) (λ never. absurd never)) s.before s.each)
-        (all_map _ _ (weaker_entry told (told && others) state faults new output closes (Unit {0}) down (and_first told others) (λ _. d)) s.after s.last);
+        (all_map _ _ (weaker_entry told weak state faults new output closes ⊥ down weaker (λ never. absurd never)) s.before s.each)
+        (all_map _ _ (weaker_entry told weak state faults new output closes (Unit {0}) down weaker (λ _. d)) s.after s.last);
   }
 
   shut_last_known : LastKnows (record new { live = new.live + length s.after }) → ShutLast first new
@@ -287,6 +344,30 @@ module _ {L P : Type 0} (told others : Bool) (state : L → LinkState) (faults :
   pub shut_last : (new.closed ≡ first.closed) ⊎ ShutLast first new
   shut_last = elim s.knows [ inl same ↦ inl (same ∙ closed_is) | inr k ↦ inr (shut_last_known k) ]
 
+  pub settles : SettlesSpills count now first.closed new.closed
+  settles = record { entries = s.before ++ s.after; whole = all_closed; counted = s.spilled }
+
+  -- where a quiet net told to stop, nothing was open
+  nothing_known : LastKnows (record new { live = new.live + length s.after }) → Stops old new → IsTrue old.quiet → length s.after ≡ 0
+  nothing_known k stops quiet =
+      let empty : k.poll.live ≡ 0 = subst (λ l. IsSomeAnd l (λ poll. poll.live ≡ 0)) k.last (stops.empty quiet) in
+      let here : IsTrue k.poll.turn.stop × (k.poll.given ≡ new.given) = subst (λ l. IsSomeAnd l (λ poll. IsTrue poll.turn.stop × (poll.given ≡ new.given))) k.last stops.last in
+      let same : length k.poll.given ≡ length new.given = ap length here.1 in
+      let o = k.open' in
+      omega (arith, o, empty, same)
+
+  nothing_after : Stops old new → IsTrue old.quiet → length s.after ≡ 0
+  nothing_after stops quiet = elim s.knows [ inl same ↦ none_behind old.closed s.before s.after (sym s.closed ∙ same) | inr k ↦ nothing_known k stops quiet ]
+
+  pub serves_all : Stops old new → IsTrue old.quiet → ServesAll first.closed new.closed
+  serves_all stops quiet = record {
+    entries = s.before ++ s.after;
+    whole = all_closed;
+    none_is_shut = all_append _ s.before s.after
+        (all_map _ _ (λ e h. no_shut_down told (state e.link) (faults e.link) _ _ e.end h.cause) s.before s.each)
+        (all_nothing _ s.after (nothing_after stops quiet));
+  }
+
   pub retires_given : RetiresGiven plan first new
   retires_given = record {
     given = map (λ e. (e.peer, plan e.link)) (s.before ++ s.after);
@@ -295,6 +376,14 @@ module _ {L P : Type 0} (told others : Bool) (state : L → LinkState) (faults :
     retired = all_closed;
     same = IsPermutation-refl _;
   }
+
+-- no spill was settled
+pub nothing_settled : {L : Type 0} (old new : List (Retired L)) (before now : ℕ) → new ≡ old → now ≡ before → SettlesSpills before now old new
+nothing_settled {L} old new before now closed same = record {
+  entries = [];
+  whole = closed ∙ sym (append-nil old);
+  counted = let none : spill_faults {L = L} [] ≡ 0 = refl in omega (arith, none, same);
+}
 
 -- nobody came and nobody was retired
 pub nobody_given : {L P : Type 0} (plan : L → P) (old new : NetState L P) → new.given ≡ old.given → new.closed ≡ old.closed → RetiresGiven plan old new
@@ -308,17 +397,13 @@ nobody_given plan old new given closed = record {
 
 -- what an exchange leaves of the net's count, and whether it stopped
 pub outcome_polls : (outcome : Outcome) (before now : ℕ) → PollFaults outcome before now → GoesPolls (going_of outcome) before now
-outcome_polls Done before now h = h
-outcome_polls LinkFault before now h = h
-outcome_polls NoMemory before now h = h
+outcome_polls (Over ending) before now h = h
 outcome_polls Stopped before now h = h
 outcome_polls PollFailed before now h = h
 
 pub outcome_stops : {L P : Type 0} (outcome : Outcome) (old mid new : NetState L P) → new.last ≡ mid.last → new.given ≡ mid.given → new.polls ≡ mid.polls → new.stopped ≡ mid.stopped →
     OutcomeStops outcome old mid → GoesStops (going_of outcome) old new
-outcome_stops Done old mid new last given polls stopped h = tt
-outcome_stops LinkFault old mid new last given polls stopped h = tt
-outcome_stops NoMemory old mid new last given polls stopped h = tt
+outcome_stops (Over ending) old mid new last given polls stopped h = tt
 outcome_stops PollFailed old mid new last given polls stopped h = tt
 outcome_stops Stopped old mid new last given polls stopped h =
     let rose : raised old.polls ≤ mid.polls = h.told.polled in
@@ -327,6 +412,7 @@ outcome_stops Stopped old mid new last given polls stopped h =
       told = record { polled = more; stopped = stopped ∙ h.told.stopped };
       last = subst (λ l. IsSomeAnd l (λ poll. IsTrue poll.turn.stop × (poll.given ≡ new.given))) (sym last)
           (subst (λ g. IsSomeAnd mid.last (λ poll. IsTrue poll.turn.stop × (poll.given ≡ g))) (sym given) h.last);
+      empty = λ quiet. subst (λ l. IsSomeAnd l (λ poll. poll.live ≡ 0)) (sym last) (h.empty quiet);
     }
 
 pub told_from : {L P : Type 0} (first old new : NetState L P) → old.polls ≡ first.polls → ToldStop old new → ToldStop first new

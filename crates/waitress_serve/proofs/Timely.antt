@@ -14,7 +14,7 @@ use Rattle.outside.specs.declared.types.Want.{Want}
 use Rattle.waitress_serve.specs.Connection.{IsNewAt, OnlyPolls, TimeGoesOn}
 use Rattle.waitress_serve.specs.Headline.{EntryHolds, IsTimely, IsWithin}
 use Rattle.waitress_serve.specs.Serving.{RetiresOne, Serves, Served}
-use Rattle.waitress_serve.specs.Units.{Input}
+use Rattle.waitress_serve.specs.Output.{Input}
 use Rattle.waitress_serve.proofs.Polling.{time_same, time_trans, turn_time, turn_within}
 use Rattle.waitress_serve.proofs.ServingLemmas.{all_append, all_map, serves_polls, serves_more, served_last}
 
@@ -67,10 +67,10 @@ module _ {L P : Type 0} (tells : Bool) (state : L → LinkState) (faults : L →
   }
 
 module _ {L P : Type 0} (tells : Bool) (state : L → LinkState) (faults : L → ℕ) (output : Peer → Input → List ℕ) (closes : Peer → Input → Bool)
-    (plan : L → P) (old mid new : NetState L P) where
+    (plan : L → P) (before now : ℕ) (old mid new : NetState L P) where
   -- serving goes on with polls
-  pub serves_later : Serves (EntryHolds tells state faults mid output closes ⊥) plan old mid → OnlyPolls mid new → Serves (EntryHolds tells state faults new output closes ⊥) plan old new
-  serves_later s k = serves_polls _ _ plan old mid new (later_entry tells state faults mid new output closes ⊥ k.time) s k
+  pub serves_later : Serves (EntryHolds tells state faults mid output closes ⊥) plan before now old mid → OnlyPolls mid new → Serves (EntryHolds tells state faults new output closes ⊥) plan before now old new
+  serves_later s k = serves_polls _ _ plan before now old mid new (later_entry tells state faults mid new output closes ⊥ k.time) s k
 
 -- a link came
 module _ {L P : Type 0} (plan : P) (peer : Peer) (mid turned came : NetState L P) (wants : List Want) (accepting : Bool) (turn : Turn)
@@ -89,15 +89,15 @@ module _ {L P : Type 0} (plan : P) (peer : Peer) (mid turned came : NetState L P
 module _ {L P : Type 0} (tells : Bool) (state : L → LinkState) (faults : L → ℕ) (output : Peer → Input → List ℕ) (closes : Peer → Input → Bool)
     (plan : L → P) (old mid turned came new : NetState L P) (wants : List Want) (accepting : Bool) (turn : Turn) (peer : Peer) (made : P)
     (polled : TellsTurn wants accepting turn mid turned) (accepted : GivesLink made peer turned came)
-    (s : Serves (EntryHolds tells state faults mid output closes ⊥) plan old mid) where
+    (first before now : ℕ) (s : Serves (EntryHolds tells state faults mid output closes ⊥) plan first before old mid) where
   earlier : TimeGoesOn came new → (e : Retired L) → EntryHolds tells state faults mid output closes ⊥ e → EntryHolds tells state faults new output closes ⊥ e
   earlier t = later_entry tells state faults mid new output closes ⊥ (time_trans mid came new (came_time made peer mid turned came wants accepting turn polled accepted) t)
 
   -- serving goes on
-  pub serves_next : RetiresOne (EntryHolds tells state faults new output closes ⊥) plan peer made came new → Serves (EntryHolds tells state faults new output closes ⊥) plan old new
-  serves_next one = serves_more plan old mid turned came new wants accepting turn peer made polled accepted _ _ _ (earlier one.time) s one (λ h. h)
+  pub serves_next : RetiresOne (EntryHolds tells state faults new output closes ⊥) plan peer made before now came new → Serves (EntryHolds tells state faults new output closes ⊥) plan first now old new
+  serves_next one = serves_more plan old mid turned came new wants accepting turn peer made polled accepted _ _ _ (earlier one.time) first before now s one (λ h. h)
 
   -- serving ends, and the link was shut down
-  pub served_down : RetiresOne (EntryHolds tells state faults new output closes (Unit {0})) plan peer made came new →
-      Served (EntryHolds tells state faults new output closes ⊥) (EntryHolds tells state faults new output closes (Unit {0})) plan old new
-  served_down one = served_last plan old mid turned came new wants accepting turn peer made polled accepted _ _ _ (earlier one.time) s one
+  pub served_down : RetiresOne (EntryHolds tells state faults new output closes (Unit {0})) plan peer made before now came new →
+      Served (EntryHolds tells state faults new output closes ⊥) (EntryHolds tells state faults new output closes (Unit {0})) plan first now old new
+  served_down one = served_last plan old mid turned came new wants accepting turn peer made polled accepted _ _ _ (earlier one.time) first before now s one

@@ -1,19 +1,19 @@
--- Internal: what the calls of one connection leave of its link and of the net.
-use Rattle.std.specs.Prelude.{◌≡◌, ◌≤◌, ◌+◌, ◌-◌, ◌⊎◌, ℕ, IsTrue, List, [], ◌++◌, length, take, Some}
+-- Internal: what the calls of one connection leave of it, of its link and of the net.
+use Rattle.std.specs.Prelude.{◌≡◌, ◌≤◌, ◌+◌, ◌-◌, ◌⊎◌, ℕ, Bool, false, IsTrue, List, [], ◌++◌, length, drop, Option, None, Some, IsSomeAnd}
 use Rattle.outside.specs.Causes.{Rose}
 use Rattle.outside.specs.Link.{LinkState, stamped}
 use Rattle.outside.specs.Net.{NetState, Poll, last_moment}
+use Rattle.outside.specs.declared.types.Peer.{Peer}
+use Rattle.request_stream.specs.Story.{Story}
+use Rattle.request_stream.specs.Units.{Asked, units}
 use Rattle.waitress_serve.specs.Headline.{IsPrefix, IsServed, IsWithin}
-use Rattle.waitress_serve.specs.Output.{responses, has_closed}
-use Rattle.waitress_serve.specs.Pending.{AskNothing}
+use Rattle.waitress_serve.specs.Output.{any_closes, answers_for, has_closed, joined, responses}
 use Rattle.waitress_serve.specs.Status.{ToldStop, StopsLast}
-use Rattle.waitress_serve.specs.Units.{bytes_of}
+use Rattle.waitress_serve.specs.declared.settings.Settings.{Settings}
 use Rattle.waitress_serve.specs.declared.waiting.Waited.{Waited}
 use Rattle.waitress_serve.specs.declared.waiting.Waited.TheVariants as waited
-use Rattle.waitress_serve.specs.declared.receiving.ReceivedOnce.{ReceivedOnce}
-use Rattle.waitress_serve.specs.declared.receiving.ReceivedOnce.TheVariants as once
-use Rattle.waitress_serve.specs.declared.receiving.Received.{Received}
-use Rattle.waitress_serve.specs.declared.receiving.Received.TheVariants as received
+use Rattle.waitress_serve.specs.declared.outcome.Ending.{Ending}
+use Rattle.waitress_serve.specs.declared.outcome.Ending.TheVariants as ending
 use Rattle.waitress_serve.specs.declared.outcome.Outcome.{Outcome}
 use Rattle.waitress_serve.specs.declared.outcome.Outcome.TheVariants as outcome
 
@@ -40,10 +40,11 @@ pub record OnlyPolls {L P : Type 0} (old new : NetState L P) : Type 0 where
   pub time : TimeGoesOn old new
   pub knows : LastKnows old → LastKnows new
 
--- a poll told to stop, and it was the last
+-- a poll told to stop, and it was the last; a quiet net told so while nothing was open
 pub record Stops {L P : Type 0} (old new : NetState L P) : Type 0 where
   pub told : ToldStop old new
   pub last : StopsLast new
+  pub empty : IsTrue old.quiet → IsSomeAnd new.last (λ poll. poll.live ≡ 0)
 
 -- nothing came and nothing was sent
 pub record IsFresh (link : LinkState) : Type 0 where
@@ -56,30 +57,42 @@ pub record IsNewAt (now : ℕ) (old new : LinkState) : Type 0 where
   pub came : new.arrivals ≡ old.arrivals ++ stamped now piece
   pub touched : (new.touched ≡ old.touched) ⊎ (new.touched ≡ now)
 
--- nothing was sent, and these bytes are what came
-pub record Listening (link : LinkState) (taken : List ℕ) : Type 0 where
-  pub silent : link.sent ≡ []
-  pub taken_is : taken ≡ bytes_of link.arrivals
+-- what was sent, and what is left to be sent, are the answers to what came
+pub record IsAnswering (settings : Settings) (peer : Peer) (link : LinkState) (pending : List ℕ) (closing : Bool) : Type 0 where
+  pub whole : link.sent ++ pending ≡ responses settings peer link.arrivals
+  pub closed : closing ≡ has_closed settings peer link.arrivals
 
--- nothing was sent, and this text answers what came
-pub record Answers (link : LinkState) (text : List ℕ) : Type 0 where
-  pub silent : link.sent ≡ []
-  pub whole : text ≡ responses link.arrivals
-  pub last : IsTrue (has_closed link.arrivals)
+-- A connection goes on: its stream was fed what came, and the output has the answers that are not
+-- all sent, from its byte number at on. link_tells and spill_tells say whether these are told.
+pub record IsServing (link_tells spill_tells : Bool) (settings : Settings) (peer : Peer)
+    (link : LinkState) (story : Story) (output : List ℕ) (at : ℕ) (closing : Bool) : Type 0 where
+  pub within : at ≤ length output
+  pub limits : story.limits ≡ settings.limits
+  pub unfailed : story.failed ≡ false
+  pub fed : IsTrue link_tells → story.fed ≡ link.arrivals
+  pub answers : IsTrue link_tells → IsTrue spill_tells →
+      IsAnswering settings peer link (drop at output) closing
 
--- the text answers what came, and its first bytes were sent
-pub record Sending (link : LinkState) (text : List ℕ) (at : ℕ) : Type 0 where
-  pub sent_is : link.sent ≡ take at text
-  pub whole : text ≡ responses link.arrivals
-  pub last : IsTrue (has_closed link.arrivals)
+-- the output has the answers to what a piece completes, and nothing else
+pub record Answered (spill_tells : Bool) (settings : Settings) (peer : Peer) (now : ℕ) (piece : List ℕ)
+    (old new : Story) (output : List ℕ) (at : ℕ) (closing : Bool) : Type 0 where
+  pub limits : new.limits ≡ old.limits
+  pub unfailed : new.failed ≡ false
+  pub fed : new.fed ≡ old.fed ++ stamped now piece
+  pub all : at ≡ 0
+  pub more : IsTrue spill_tells → (asked : List Asked)
+      × (units old.limits new.fed ≡ units old.limits old.fed ++ asked)
+      × (output ≡ joined (answers_for settings peer asked))
+      × (closing ≡ any_closes (answers_for settings peer asked))
 
 -- the link was sent all that answers what came
-abbrev pub IsAnswered : LinkState → Type 0
-IsAnswered link = IsServed link (responses link.arrivals) (has_closed link.arrivals)
+abbrev pub IsAnswered : Settings → Peer → LinkState → Type 0
+IsAnswered settings peer link =
+    IsServed link (responses settings peer link.arrivals) (has_closed settings peer link.arrivals)
 
 -- the link was sent the first bytes of what answers what came
-abbrev pub IsPartlyAnswered : LinkState → Type 0
-IsPartlyAnswered link = IsPrefix link.sent (responses link.arrivals)
+abbrev pub IsPartlyAnswered : Settings → Peer → LinkState → Type 0
+IsPartlyAnswered settings peer link = IsPrefix link.sent (responses settings peer link.arrivals)
 
 -- only a failing poll raises the net's count
 abbrev pub WaitPolls : Waited → ℕ → ℕ → Type 0
@@ -104,75 +117,64 @@ ReadyNow waited.Stopped net = Unit {0}
 ReadyNow waited.Failed net = Unit {0}
 ReadyNow waited.NoMemory net = Unit {0}
 
--- what one recv leaves
-abbrev pub ReceivesOnce : ReceivedOnce → LinkState → List ℕ → Type 0
-ReceivesOnce once.More link taken = Listening link taken
-ReceivesOnce (once.Answer text) link taken = Answers link text.items
-ReceivesOnce once.Ended link taken = (link.sent ≡ []) × IsAnswered link
-ReceivesOnce once.LinkFault link taken = link.sent ≡ []
-ReceivesOnce once.NoMemory link taken = link.sent ≡ []
-
--- where more is waited for, what came asks for nothing yet
-abbrev pub StillAsks : ReceivedOnce → List ℕ → Type 0
-StillAsks once.More taken = AskNothing taken
-StillAsks (once.Answer _) taken = Unit {0}
-StillAsks once.Ended taken = Unit {0}
-StillAsks once.LinkFault taken = Unit {0}
-StillAsks once.NoMemory taken = Unit {0}
+-- what the end of an exchange leaves of its link
+abbrev pub Leaves : Settings → Peer → Ending → LinkState → Type 0
+Leaves settings peer ending.Done link = IsAnswered settings peer link
+Leaves settings peer ending.LinkFault link = IsPartlyAnswered settings peer link
+Leaves settings peer ending.SpillFault link = IsPartlyAnswered settings peer link
+Leaves settings peer ending.NoMemory link = IsPartlyAnswered settings peer link
 
 -- only a fault of the link raises its count
-abbrev pub OnceFaults : ReceivedOnce → ℕ → ℕ → Type 0
-OnceFaults once.LinkFault before now = Rose before now
-OnceFaults once.More before now = now ≡ before
-OnceFaults (once.Answer _) before now = now ≡ before
-OnceFaults once.Ended before now = now ≡ before
-OnceFaults once.NoMemory before now = now ≡ before
+abbrev pub LinkFaults : Ending → ℕ → ℕ → Type 0
+LinkFaults ending.LinkFault before now = Rose before now
+LinkFaults ending.Done before now = now ≡ before
+LinkFaults ending.SpillFault before now = now ≡ before
+LinkFaults ending.NoMemory before now = now ≡ before
 
--- what an exchange leaves of its link
-abbrev pub Leaves : Outcome → LinkState → Type 0
-Leaves outcome.Done link = IsAnswered link
-Leaves outcome.LinkFault link = IsPartlyAnswered link
-Leaves outcome.NoMemory link = IsPartlyAnswered link
-Leaves outcome.Stopped link = IsPartlyAnswered link
-Leaves outcome.PollFailed link = IsPartlyAnswered link
+-- only a fault of a spill raises the count of the spills
+abbrev pub SpillFaults : Ending → ℕ → ℕ → Type 0
+SpillFaults ending.SpillFault before now = Rose before now
+SpillFaults ending.Done before now = now ≡ before
+SpillFaults ending.LinkFault before now = now ≡ before
+SpillFaults ending.NoMemory before now = now ≡ before
 
--- only a fault of the link raises its count
-abbrev pub LinkFaults : Outcome → ℕ → ℕ → Type 0
-LinkFaults outcome.LinkFault before now = Rose before now
-LinkFaults outcome.Done before now = now ≡ before
-LinkFaults outcome.NoMemory before now = now ≡ before
-LinkFaults outcome.Stopped before now = now ≡ before
-LinkFaults outcome.PollFailed before now = now ≡ before
+-- what a step that ends an exchange leaves
+abbrev pub StepLeaves : Settings → Peer → Option Ending → LinkState → Type 0
+StepLeaves settings peer None link = Unit {0}
+StepLeaves settings peer (Some ending) link = Leaves settings peer ending link
+
+abbrev pub StepFaults : Option Ending → ℕ → ℕ → Type 0
+StepFaults None before now = now ≡ before
+StepFaults (Some ending) before now = LinkFaults ending before now
+
+abbrev pub StepSpills : Option Ending → ℕ → ℕ → Type 0
+StepSpills None before now = now ≡ before
+StepSpills (Some ending) before now = SpillFaults ending before now
+
+-- the same of an exchange
+abbrev pub OutcomeLeaves : Settings → Peer → Outcome → LinkState → Type 0
+OutcomeLeaves settings peer (outcome.Over ending) link = Leaves settings peer ending link
+OutcomeLeaves settings peer outcome.Stopped link = IsPartlyAnswered settings peer link
+OutcomeLeaves settings peer outcome.PollFailed link = IsPartlyAnswered settings peer link
+
+abbrev pub OutcomeFaults : Outcome → ℕ → ℕ → Type 0
+OutcomeFaults (outcome.Over ending) before now = LinkFaults ending before now
+OutcomeFaults outcome.Stopped before now = now ≡ before
+OutcomeFaults outcome.PollFailed before now = now ≡ before
+
+abbrev pub OutcomeSpills : Outcome → ℕ → ℕ → Type 0
+OutcomeSpills (outcome.Over ending) before now = SpillFaults ending before now
+OutcomeSpills outcome.Stopped before now = now ≡ before
+OutcomeSpills outcome.PollFailed before now = now ≡ before
 
 -- only a failing poll raises the net's count
 abbrev pub PollFaults : Outcome → ℕ → ℕ → Type 0
 PollFaults outcome.PollFailed before now = Rose before now
-PollFaults outcome.Done before now = now ≡ before
-PollFaults outcome.LinkFault before now = now ≡ before
-PollFaults outcome.NoMemory before now = now ≡ before
 PollFaults outcome.Stopped before now = now ≡ before
+PollFaults (outcome.Over ending) before now = now ≡ before
 
 -- where it stopped, the last poll told so
 abbrev pub OutcomeStops : {L P : Type 0} → Outcome → NetState L P → NetState L P → Type 0
 OutcomeStops outcome.Stopped old new = Stops old new
 OutcomeStops outcome.PollFailed old new = Unit {0}
-OutcomeStops outcome.Done old new = Unit {0}
-OutcomeStops outcome.LinkFault old new = Unit {0}
-OutcomeStops outcome.NoMemory old new = Unit {0}
-
--- the same of a request that was read, or that was not
-abbrev pub ReceivedFaults : Received → ℕ → ℕ → Type 0
-ReceivedFaults (received.Answer _) before now = now ≡ before
-ReceivedFaults (received.Over ending) before now = LinkFaults ending before now
-
-abbrev pub ReceivedPolls : Received → ℕ → ℕ → Type 0
-ReceivedPolls (received.Answer _) before now = now ≡ before
-ReceivedPolls (received.Over ending) before now = PollFaults ending before now
-
-abbrev pub ReceivedStops : {L P : Type 0} → Received → NetState L P → NetState L P → Type 0
-ReceivedStops (received.Answer _) old new = Unit {0}
-ReceivedStops (received.Over ending) old new = OutcomeStops ending old new
-
-abbrev pub Receives : Received → LinkState → Type 0
-Receives (received.Answer text) link = Answers link text.items
-Receives (received.Over ending) link = Leaves ending link
+OutcomeStops (outcome.Over ending) old new = Unit {0}

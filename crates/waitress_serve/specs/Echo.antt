@@ -6,7 +6,7 @@ use Rattle.wsgi.specs.Environ.{first_value}
 use Rattle.wsgi.specs.declared.step.Step.{Step}
 use Rattle.wsgi.specs.declared.step.Step.TheVariants.{Start, Piece}
 
--- how many pieces of 32768 bytes, the last one maybe shorter, so many bytes make
+-- how many pieces of 32768 bytes or fewer so many bytes make
 abbrev pub piece_count : ℕ → ℕ
 piece_count size = (size + 32767) / 32768
 

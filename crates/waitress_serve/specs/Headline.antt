@@ -1,7 +1,7 @@
 -- What a server owes to each connection that it retired.
-use Rattle.std.specs.Prelude.{◌≡◌, ◌≢◌, ◌≤◌, ◌<◌, ◌+◌, ◌-◌, ◌⊎◌, ℕ, Bool, ◌||◌, IsTrue, List, ◌++◌, length, map, Some, IsPermutation}
+use Rattle.std.specs.Prelude.{◌≡◌, ◌≢◌, ◌≤◌, ◌<◌, ◌+◌, ◌-◌, ◌⊎◌, ℕ, Bool, ◌||◌, IsTrue, true, false, List, ◌++◌, length, map, filter, Some, IsPermutation}
 use Rattle.std.specs.List.{AllByRecursion}
-use Rattle.outside.specs.Causes.{Rose}
+use Rattle.outside.specs.Causes.{Rose, added}
 use Rattle.outside.specs.Link.{LinkState}
 use Rattle.outside.specs.Net.{NetState, Poll, last_moment}
 use Rattle.outside.specs.declared.retired.Retired.{Retired}
@@ -9,7 +9,7 @@ use Rattle.outside.specs.declared.types.Peer.{Peer}
 use Rattle.outside.specs.declared.types.End.{End}
 use Rattle.outside.specs.declared.types.End.TheVariants as over
 use Rattle.waitress_serve.specs.Status.{ToldStop}
-use Rattle.waitress_serve.specs.Units.{Input}
+use Rattle.waitress_serve.specs.Output.{Input}
 
 -- the second list begins with the first
 pub record IsPrefix (xs ys : List ℕ) : Type 0 where
@@ -21,13 +21,14 @@ pub record IsServed (link : LinkState) (output : List ℕ) (closes : Bool) : Typ
   pub whole : link.sent ≡ output
   pub over : IsTrue (link.ended || closes)
 
--- Why a link was retired; down says why the whole server went down.
+-- Why a link was retired; down says why the whole server went down. A fault of a spill is counted by
+-- the spills, of which SettlesSpills speaks.
 abbrev pub EndCause : Bool → LinkState → ℕ → List ℕ → Bool → Type 0 → End → Type 0
 EndCause tells link faults output closes down over.Done = IsTrue tells → IsServed link output closes
 EndCause tells link faults output closes down over.LinkFault = 0 < faults
 EndCause tells link faults output closes down over.NoMemory = Unit {0}
 EndCause tells link faults output closes down over.ShutDown = down
-EndCause tells link faults output closes down over.SpillFault = ⊥
+EndCause tells link faults output closes down over.SpillFault = Unit {0}
 EndCause tells link faults output closes down over.AppFault = ⊥
 EndCause tells link faults output closes down (over.TimedOut touched now) = ⊥
 
@@ -59,6 +60,32 @@ pub record Added {E : Type 0} (Holds : E → Type 0) (old new : List E) : Type 0
   pub entries : List E
   pub whole : new ≡ old ++ entries
   pub each : AllByRecursion Holds entries
+
+abbrev pub is_spill_fault : End → Bool
+is_spill_fault over.SpillFault = true
+is_spill_fault over.Done = false
+is_spill_fault over.LinkFault = false
+is_spill_fault over.NoMemory = false
+is_spill_fault over.ShutDown = false
+is_spill_fault over.AppFault = false
+is_spill_fault (over.TimedOut touched now) = false
+
+-- how many were retired for a fault of a spill
+abbrev pub spill_faults : {L : Type 0} → List (Retired L) → ℕ
+spill_faults entries = length (filter (λ e. is_spill_fault e.end) entries)
+
+-- For each that was retired for a fault of a spill, such a spill was settled, and is counted.
+pub record SettlesSpills {L : Type 0} (before now : ℕ) (old new : List (Retired L)) : Type 0 where
+  pub entries : List (Retired L)
+  pub whole : new ≡ old ++ entries
+  pub counted : added before (spill_faults entries) ≤ now
+
+-- A quiet net was served to its end: nobody was shut down. So each was answered whole, or had a fault
+-- that is counted, or was refused memory.
+pub record ServesAll {L : Type 0} (old new : List (Retired L)) : Type 0 where
+  pub entries : List (Retired L)
+  pub whole : new ≡ old ++ entries
+  pub none_is_shut : AllByRecursion (λ e. e.end ≢ over.ShutDown) entries
 
 -- Why the whole server may go down while a connection is open: a poll told to stop, or the net
 -- failed, or memory was refused, or the text that says so could not be written.

@@ -1,13 +1,10 @@
-pub mod Answers
-pub mod ClosingHead
 pub mod Connection
 pub mod Echo
 pub mod EchoLaw
 pub mod Headline
 pub mod Output
-pub mod Pending
 pub mod Reports
-pub mod ResponseHead
+pub mod Responding
 pub mod Serving
+pub mod Settings
 pub mod Status
-pub mod Units

@@ -1,13 +1,15 @@
 -- Internal: what the loop of turns leaves of the net.
 use Rattle.std.specs.Prelude.{◌≡◌, ◌≤◌, ◌+◌, ◌⊎◌, ℕ, List, [], ◌∷◌, ◌++◌, length, map, Option, None, Some}
 use Rattle.std.specs.List.{AllByRecursion}
-use Rattle.outside.specs.Causes.{Rose}
+use Rattle.outside.specs.Causes.{Rose, added}
 use Rattle.outside.specs.Net.{NetState}
 use Rattle.outside.specs.declared.retired.Retired.{Retired}
 use Rattle.outside.specs.declared.types.Peer.{Peer}
 use Rattle.outside.specs.declared.types.End.{End}
 use Rattle.outside.specs.declared.types.End.TheVariants as over
 use Rattle.waitress_serve.specs.Connection.{LastKnows, Stops, TimeGoesOn}
+use Rattle.waitress_serve.specs.Headline.{spill_faults}
+use Rattle.waitress_serve.specs.declared.outcome.Ending.TheVariants as ending
 use Rattle.waitress_serve.specs.declared.outcome.Outcome.{Outcome}
 use Rattle.waitress_serve.specs.declared.outcome.Outcome.TheVariants as outcome
 use Rattle.waitress_serve.specs.declared.outcome.Going.{Going}
@@ -15,17 +17,16 @@ use Rattle.waitress_serve.specs.declared.outcome.Going.TheVariants as going
 
 -- what an exchange is retired as
 abbrev pub end_of : Outcome → End
-end_of outcome.Done = over.Done
-end_of outcome.LinkFault = over.LinkFault
-end_of outcome.NoMemory = over.NoMemory
+end_of (outcome.Over ending.Done) = over.Done
+end_of (outcome.Over ending.LinkFault) = over.LinkFault
+end_of (outcome.Over ending.SpillFault) = over.SpillFault
+end_of (outcome.Over ending.NoMemory) = over.NoMemory
 end_of outcome.Stopped = over.ShutDown
 end_of outcome.PollFailed = over.ShutDown
 
 -- how serving ends with an exchange, where it does
 abbrev pub going_of : Outcome → Option Going
-going_of outcome.Done = None
-going_of outcome.LinkFault = None
-going_of outcome.NoMemory = None
+going_of (outcome.Over ending) = None
 going_of outcome.Stopped = Some going.Stopped
 going_of outcome.PollFailed = Some going.NetFailed
 
@@ -34,13 +35,14 @@ abbrev pub IsDown : Option Going → Type 0
 IsDown None = ⊥
 IsDown (Some going) = Unit {0}
 
--- one link, of this peer and plan, was retired
-pub record RetiresOne {L P : Type 0} (Holds : Retired L → Type 0) (plan : L → P) (peer : Peer) (made : P) (old new : NetState L P) : Type 0 where
+-- one link, of this peer and plan, was retired; before and now are the counts of the spills
+pub record RetiresOne {L P : Type 0} (Holds : Retired L → Type 0) (plan : L → P) (peer : Peer) (made : P) (before now : ℕ) (old new : NetState L P) : Type 0 where
   pub entry : Retired L
   pub closed : new.closed ≡ old.closed ++ entry ∷ []
   pub holds : Holds entry
   pub peer_is : entry.peer ≡ peer
   pub made_is : plan entry.link ≡ made
+  pub spilled : added before (spill_faults (entry ∷ [])) ≤ now
   pub live : new.live + 1 ≡ old.live
   pub bound : new.bound ≡ old.bound
   pub quiet : new.quiet ≡ old.quiet
@@ -58,8 +60,9 @@ pub record Retires {L P : Type 0} (Holds : Retired L → Type 0) (plan : L → P
   pub given : new.given ≡ old.given ++ map (λ e. (e.peer, plan e.link)) entries
 
 -- the loop goes on: no link is open that was not open before
-pub record Serves {L P : Type 0} (Holds : Retired L → Type 0) (plan : L → P) (old new : NetState L P) : Type 0 where
+pub record Serves {L P : Type 0} (Holds : Retired L → Type 0) (plan : L → P) (before now : ℕ) (old new : NetState L P) : Type 0 where
   pub retires : Retires Holds plan old new
+  pub spilled : added before (spill_faults retires.entries) ≤ now
   pub live : new.live ≡ old.live
   pub bound : new.bound ≡ old.bound
   pub quiet : new.quiet ≡ old.quiet
@@ -68,10 +71,11 @@ pub record Serves {L P : Type 0} (Holds : Retired L → Type 0) (plan : L → P)
 
 -- Serving ended: all that was retired holds, and the last link may have been shut down with the
 -- server.
-pub record Served {L P : Type 0} (Holds Last : Retired L → Type 0) (plan : L → P) (old new : NetState L P) : Type 0 where
+pub record Served {L P : Type 0} (Holds Last : Retired L → Type 0) (plan : L → P) (count now : ℕ) (old new : NetState L P) : Type 0 where
   pub before : List (Retired L)
   pub after : List (Retired L)
   pub closed : new.closed ≡ old.closed ++ (before ++ after)
+  pub spilled : added count (spill_faults (before ++ after)) ≤ now
   pub each : AllByRecursion Holds before
   pub last : AllByRecursion Last after
   pub given : new.given ≡ old.given ++ map (λ e. (e.peer, plan e.link)) (before ++ after)

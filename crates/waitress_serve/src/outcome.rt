@@ -4,13 +4,20 @@ ghost use Rattle.waitress_serve.specs.Serving.{end_of, going_of};
 
 use outside::End;
 
-/// How the exchange on one connection ended.
+/// How an exchange ended by what its connection did.
 #[derive(Clone, Copy, Debug, PartialEq, Eq)]
-pub(crate) enum Outcome {
+pub(crate) enum Ending {
     /// All was answered.
     Done,
     LinkFault,
+    SpillFault,
     NoMemory,
+}
+
+/// How the exchange on one connection ended.
+#[derive(Clone, Copy, Debug, PartialEq, Eq)]
+pub(crate) enum Outcome {
+    Over(Ending),
     /// A poll told to stop.
     Stopped,
     PollFailed,
@@ -29,9 +36,10 @@ pub(crate) fn end_for(outcome: Outcome) -> End
     ensures { result ≡ end_of outcome }
 {
     match outcome {
-        Outcome::Done => End::Done,
-        Outcome::LinkFault => End::LinkFault,
-        Outcome::NoMemory => End::NoMemory,
+        Outcome::Over(Ending::Done) => End::Done,
+        Outcome::Over(Ending::LinkFault) => End::LinkFault,
+        Outcome::Over(Ending::SpillFault) => End::SpillFault,
+        Outcome::Over(Ending::NoMemory) => End::NoMemory,
         Outcome::Stopped | Outcome::PollFailed => End::ShutDown,
     }
 }
@@ -41,7 +49,7 @@ pub(crate) fn going_after(outcome: Outcome) -> Option<Going>
     ensures { result ≡ going_of outcome }
 {
     match outcome {
-        Outcome::Done | Outcome::LinkFault | Outcome::NoMemory => None,
+        Outcome::Over(_) => None,
         Outcome::Stopped => Some(Going::Stopped),
         Outcome::PollFailed => Some(Going::NetFailed),
     }

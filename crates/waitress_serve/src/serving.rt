@@ -1,36 +1,42 @@
 //! The loop of turns: one connection after the other.
-ghost use Rattle.std.specs.Prelude.{◌≡◌, ◌≤◌, IsTrue};
+ghost use Rattle.std.specs.Prelude.{◌≡◌, ◌≤◌, ◌&&◌, IsTrue};
+ghost use Rattle.request_stream.specs.Reading.{ArePositive};
 ghost use Rattle.waitress_serve.specs.Headline.{EntryHolds};
 ghost use Rattle.waitress_serve.specs.Output.{responses, has_closed};
 ghost use Rattle.waitress_serve.specs.Serving.{GoingPolls, GoingStops, Served};
 
 use crate::outcome::Going;
 use crate::serving_one::serve_one;
-use outside::{Net, NetFault, Want};
+use crate::settings::Settings;
+use outside::{Net, NetFault, Spills};
 use std::alloc::Global;
 use std::sync::Wait;
 
 /// Makes turns until a poll tells to stop, the net fails or memory is refused.
-pub(crate) fn serve<W: Wait, N: Net>(
+pub(crate) fn serve<W: Wait, N: Net, P: Spills>(
     rt: &W,
     alloc: Global,
+    settings: &Settings,
     net: &mut N,
-    wants: &mut Vec<Want>,
+    spills: &mut P,
 ) -> Going
+    requires { ArePositive settings.now.limits }
     ensures bind { N.bind_faults net.new ≡ N.bind_faults net.old }
     ensures polls { GoingPolls result (N.poll_faults net.old) (N.poll_faults net.new) }
     ensures stops { IsTrue N.tells → GoingStops result (N.state net.old) (N.state net.new) }
     ensures plan { N.plan net.new ≡ N.plan net.old }
+    ensures spills { P.faults spills.old ≤ P.faults spills.new }
     ensures served { IsTrue N.tells → Served
-        (EntryHolds N.Link.tells N.Link.state N.Link.faults (N.state net.new)
-        (λ _ x. responses x) (λ _ x. has_closed x) ⊥)
-        (EntryHolds N.Link.tells N.Link.state N.Link.faults (N.state net.new)
-        (λ _ x. responses x) (λ _ x. has_closed x) (Unit {0}))
-        N.Link.plan (N.state net.old) (N.state net.new) }
+        (EntryHolds (N.Link.tells && P.Spill.tells) N.Link.state N.Link.faults (N.state net.new)
+        (responses settings.now) (has_closed settings.now) ⊥)
+        (EntryHolds (N.Link.tells && P.Spill.tells) N.Link.state N.Link.faults (N.state net.new)
+        (responses settings.now) (has_closed settings.now) (Unit {0}))
+        N.Link.plan (P.faults spills.old) (P.faults spills.new) (N.state net.old) (N.state net.new) }
 {
+    let mut wants = Vec::new(alloc);
     for _ in rt.forever() {
         wants.clear();
-        let turn = match net.poll(wants, true) {
+        let turn = match net.poll(&mut wants, true) {
             Ok(turn) => turn,
             Err(_) => return Going::NetFailed,
         };
@@ -38,10 +44,12 @@ pub(crate) fn serve<W: Wait, N: Net>(
             return Going::Stopped;
         }
         match net.accept(alloc, turn.now) {
-            Ok(Some((link, peer))) => match serve_one(rt, alloc, net, wants, link, peer) {
-                Some(going) => return going,
-                None => {}
-            },
+            Ok(Some((link, peer))) => {
+                match serve_one(rt, alloc, settings, net, &mut wants, spills, link, peer) {
+                    Some(going) => return going,
+                    None => {}
+                }
+            }
             Ok(None) => {}
             Err(NetFault::Failed) => return Going::NetFailed,
             Err(NetFault::NoMemory) => return Going::NoMemory,

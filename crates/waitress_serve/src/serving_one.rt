@@ -1,53 +1,31 @@
 //! Serving one connection.
-ghost use Rattle.std.specs.Prelude.{◌≡◌, ◌≤◌, IsTrue};
-ghost use Rattle.waitress_serve.specs.Connection.{IsFresh, Leaves, LinkFaults, OnlyPolls, OutcomeStops, PollFaults};
+ghost use Rattle.std.specs.Prelude.{◌≡◌, ◌≤◌, ◌&&◌, IsTrue};
+ghost use Rattle.request_stream.specs.Reading.{ArePositive};
+ghost use Rattle.waitress_serve.specs.Connection.{IsFresh};
 ghost use Rattle.waitress_serve.specs.Headline.{EntryHolds, IsTimely};
 ghost use Rattle.waitress_serve.specs.Output.{responses, has_closed};
 ghost use Rattle.waitress_serve.specs.Serving.{GoesPolls, GoesStops, IsDown, RetiresOne};
 
-use crate::outcome::{Going, Outcome, end_for, going_after};
-use crate::receiving::{Received, receive};
-use crate::sending::send;
-use outside::{Net, Peer, Want};
+use crate::connection::Connection;
+use crate::exchange::exchange;
+use crate::outcome::{Going, end_for, going_after};
+use crate::settings::Settings;
+use outside::{Net, Peer, Spills, Want};
 use std::alloc::Global;
 use std::sync::Wait;
 
-// Receives a request, and sends its answer.
-fn exchange<W: Wait, N: Net>(
-    rt: &W,
-    alloc: Global,
-    net: &mut N,
-    wants: &mut Vec<Want>,
-    link: &mut N::Link,
-) -> Outcome
-    requires { IsTrue N.Link.tells → IsFresh (N.Link.state link.old) }
-    ensures bind { N.bind_faults net.new ≡ N.bind_faults net.old }
-    ensures polls { PollFaults result (N.poll_faults net.old) (N.poll_faults net.new) }
-    ensures stops { IsTrue N.tells → OutcomeStops result (N.state net.old) (N.state net.new) }
-    ensures kept { IsTrue N.tells → OnlyPolls (N.state net.old) (N.state net.new) }
-    ensures plan { N.plan net.new ≡ N.plan net.old }
-    ensures faults { LinkFaults result (N.Link.faults link.old) (N.Link.faults link.new) }
-    ensures made { N.Link.plan link.new ≡ N.Link.plan link.old }
-    ensures told { IsTrue N.Link.tells → Leaves result (N.Link.state link.new) }
-    ensures timely { IsTrue N.tells → IsTrue N.Link.tells →
-        IsTimely (N.state net.old) (N.Link.state link.old) →
-        IsTimely (N.state net.new) (N.Link.state link.new) }
-{
-    match receive(rt, alloc, net, wants, link) {
-        Received::Answer(text) => send(rt, net, wants, link, text.as_slice()),
-        Received::Over(outcome) => outcome,
-    }
-}
-
 /// Serves one connection and retires it. Answers how serving ends with it, where it does.
-pub(crate) fn serve_one<W: Wait, N: Net>(
+pub(crate) fn serve_one<W: Wait, N: Net, P: Spills>(
     rt: &W,
     alloc: Global,
+    settings: &Settings,
     net: &mut N,
     wants: &mut Vec<Want>,
+    spills: &mut P,
     link: N::Link,
     peer: Peer,
 ) -> Option<Going>
+    requires positive { ArePositive settings.now.limits }
     requires live { IsTrue N.tells → 1 ≤ (N.state net.old).live }
     requires faultless { N.Link.faults link ≡ 0 }
     requires fresh { IsTrue N.Link.tells → IsFresh (N.Link.state link) }
@@ -57,13 +35,16 @@ pub(crate) fn serve_one<W: Wait, N: Net>(
     ensures polls { GoesPolls result (N.poll_faults net.old) (N.poll_faults net.new) }
     ensures stops { IsTrue N.tells → GoesStops result (N.state net.old) (N.state net.new) }
     ensures plan { N.plan net.new ≡ N.plan net.old }
+    ensures spills { P.faults spills.old ≤ P.faults spills.new }
     ensures retired { IsTrue N.tells → RetiresOne
-        (EntryHolds N.Link.tells N.Link.state N.Link.faults (N.state net.new)
-        (λ _ x. responses x) (λ _ x. has_closed x) (IsDown result))
-        N.Link.plan peer (N.Link.plan link) (N.state net.old) (N.state net.new) }
+        (EntryHolds (N.Link.tells && P.Spill.tells) N.Link.state N.Link.faults (N.state net.new)
+        (responses settings.now) (has_closed settings.now) (IsDown result))
+        N.Link.plan peer (N.Link.plan link) (P.faults spills.old) (P.faults spills.new)
+        (N.state net.old) (N.state net.new) }
 {
-    let mut link = link;
-    let outcome = exchange(rt, alloc, net, wants, &mut link);
+    let mut connection = Connection::new(alloc, settings, link, peer);
+    let outcome = exchange(rt, alloc, settings, net, wants, spills, &mut connection);
+    let Connection { link, peer, .. } = connection;
     net.retire(link, peer, end_for(outcome));
     going_after(outcome)
 }

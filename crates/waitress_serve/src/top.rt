@@ -1,14 +1,16 @@
 //! The top call.
-ghost use Rattle.std.specs.Prelude.{◌≡◌, ◌≢◌, ◌<◌, ◌⊎◌, ◌↔◌, ◌&&◌, IsTrue, [], ◌∷◌, ◌++◌, map, codes, Some, IfOk, MatchResult, OnErr, OnOk};
+ghost use Rattle.std.specs.Prelude.{◌≡◌, ◌≢◌, ◌<◌, ◌≤◌, ◌⊎◌, ◌↔◌, ◌&&◌, IsTrue, [], ◌∷◌, ◌++◌, map, codes, Some, IfOk, MatchResult, OnErr, OnOk};
 ghost use Rattle.std.specs.String.{string_bytes};
+ghost use Rattle.request_stream.specs.Reading.{ArePositive};
 ghost use Rattle.outside.specs.Causes.{HasCause, Rose};
-ghost use Rattle.waitress_serve.specs.Headline.{Added, EntryHolds, RetiresGiven, ShutLast, WentDown};
+ghost use Rattle.waitress_serve.specs.Headline.{Added, EntryHolds, RetiresGiven, ServesAll, SettlesSpills, ShutLast, WentDown};
 ghost use Rattle.waitress_serve.specs.Output.{has_closed, is_told, output, output_closes, responses};
 ghost use Rattle.waitress_serve.specs.Serving.{GoingPolls, GoingStops, Served};
 ghost use Rattle.waitress_serve.specs.Status.{IsFaulty, StopsLast, ToldStop, WritesPart, WritesSome, default_listen, listen_of, serving_lines, status_text, words_of};
 
 use crate::outcome::Going;
 use crate::serving::serve;
+use crate::settings::Settings;
 use crate::texts::{Fault, announce, report};
 use outside::{Bytes, Failed, Listen, Net, Sink, Spills, Tree, Trigger};
 use std::alloc::{AllocError, Global};
@@ -43,12 +45,15 @@ fn addresses(alloc: Global) -> Result<Vec<Listen>, AllocError>
 }
 
 // Prints where the server listens, and serves.
-fn announce_and_serve<W: Wait, N: Net, C: Sink>(
+fn announce_and_serve<W: Wait, N: Net, P: Spills, C: Sink>(
     rt: &W,
     alloc: Global,
+    settings: &Settings,
     net: &mut N,
+    spills: &mut P,
     out: &mut C,
 ) -> Result<Going, Failed>
+    requires positive { ArePositive settings.now.limits }
     ensures cause { HasCause (C.faults out.old) (C.faults out.new) result }
     ensures whole { IsTrue C.tells → OnOk result
         (C.written out.new ≡ C.written out.old ++ serving_lines default_listen) }
@@ -62,16 +67,17 @@ fn announce_and_serve<W: Wait, N: Net, C: Sink>(
     ensures unserved { IsTrue N.tells → OnErr result (N.state net.new ≡ N.state net.old) }
     ensures stops { IsTrue N.tells →
         IfOk result (λ going. GoingStops going (N.state net.old) (N.state net.new)) }
+    ensures spills { MatchResult result (λ _. P.faults spills.old ≤ P.faults spills.new)
+        (λ _. P.faults spills.new ≡ P.faults spills.old) }
     ensures served { IsTrue N.tells → OnOk result (Served
-        (EntryHolds N.Link.tells N.Link.state N.Link.faults (N.state net.new)
-        (λ _ x. responses x) (λ _ x. has_closed x) ⊥)
-        (EntryHolds N.Link.tells N.Link.state N.Link.faults (N.state net.new)
-        (λ _ x. responses x) (λ _ x. has_closed x) (Unit {0}))
-        N.Link.plan (N.state net.old) (N.state net.new)) }
+        (EntryHolds (N.Link.tells && P.Spill.tells) N.Link.state N.Link.faults (N.state net.new)
+        (responses settings.now) (has_closed settings.now) ⊥)
+        (EntryHolds (N.Link.tells && P.Spill.tells) N.Link.state N.Link.faults (N.state net.new)
+        (responses settings.now) (has_closed settings.now) (Unit {0}))
+        N.Link.plan (P.faults spills.old) (P.faults spills.new) (N.state net.old) (N.state net.new)) }
 {
     announce(out)?;
-    let mut wants = Vec::new(alloc);
-    Ok(serve(rt, alloc, net, &mut wants))
+    Ok(serve(rt, alloc, settings, net, spills))
 }
 
 /// Does all that the program does, and answers its status.
@@ -108,7 +114,15 @@ pub fn run<W: Threads + Wait + Sync, N: Net, T: Tree, P: Spills, C: Sink, G: Tri
     ensures bound { IsTrue N.tells → (N.state net.old).polls < (N.state net.new).polls →
         (N.state net.new).bound ≡ Some (listen_of (words_of words.now)) }
     ensures tree { T.faults tree.new ≡ T.faults tree.old }
-    ensures spills { P.faults spills.new ≡ P.faults spills.old }
+
+    // A connection that a spill's fault ended had its spill settled, which counts it.
+    ensures spills { P.faults spills.old ≤ P.faults spills.new }
+    ensures settled { IsTrue N.tells → SettlesSpills (P.faults spills.old) (P.faults spills.new)
+        (N.state net.old).closed (N.state net.new).closed }
+
+    // Over a quiet net nobody is shut down, unless the net or memory ends serving.
+    ensures complete { IsTrue N.tells → IsTrue (N.state net.old).quiet → result ≡ 0 →
+        ServesAll (N.state net.old).closed (N.state net.new).closed }
 
     // 0: a poll told to stop.
     ensures zero { IsTrue N.tells → result ≡ 0 → ToldStop (N.state net.old) (N.state net.new) }
@@ -177,13 +191,16 @@ pub fn run<W: Threads + Wait + Sync, N: Net, T: Tree, P: Spills, C: Sink, G: Tri
     if !is_echo(words) {
         return report(err, Fault::NotBuilt);
     }
+    let Ok(settings) = Settings::new(alloc) else {
+        return report(err, Fault::NoMemory);
+    };
     let Ok(listen) = addresses(alloc) else {
         return report(err, Fault::NoMemory);
     };
     if net.bind(listen.as_slice()).is_err() {
         return report(err, Fault::BindFailed);
     }
-    match announce_and_serve(rt, alloc, net, out) {
+    match announce_and_serve(rt, alloc, &settings, net, spills, out) {
         Err(_) => 6,
         Ok(Going::Stopped) => 0,
         Ok(Going::NetFailed) => report(err, Fault::PollFailed),
