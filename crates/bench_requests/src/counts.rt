@@ -1,0 +1,67 @@
+//! What a stream gave.
+use crate::shapes::Shape;
+use outside::{MemSpill, MemSpills};
+use request_stream::{Limits, Stream, StreamFault, Unit};
+use std::alloc::Global;
+
+/// What was read.
+#[derive(Clone, Copy, Debug)]
+pub struct Counts {
+    pub bytes: u64,
+    pub requests: u64,
+    /// The bytes of all bodies.
+    pub content: u64,
+    pub refused: u64,
+}
+
+const NONE: Counts = Counts {
+    bytes: 0,
+    requests: 0,
+    content: 0,
+    refused: 0,
+};
+
+const LIMITS: Limits = Limits {
+    max_head: 262_144,
+    max_body: 1_073_741_824,
+    inbuf_overflow: 524_288,
+};
+
+fn count(counts: &mut Counts, units: Vec<Unit<MemSpill>>) {
+    for unit in units {
+        match unit {
+            Unit::Continue => {}
+            Unit::Refused(_) => counts.refused = counts.refused.wrapping_add(1),
+            Unit::Request(request) => {
+                counts.requests = counts.requests.wrapping_add(1);
+                counts.content = counts.content.wrapping_add(request.length);
+            }
+        }
+    }
+}
+
+/// Feeds requests of a shape in pieces of a size, and counts what comes out. So many blocks are fed;
+/// a block has as many whole requests as fill a piece.
+pub fn read(
+    alloc: Global,
+    shape: Shape,
+    piece: usize,
+    blocks: u64,
+) -> Result<Counts, StreamFault<MemSpill>> {
+    let request = shape.request(alloc)?;
+    let mut block = Vec::new(alloc);
+    for _ in 0..(piece / request.len().max(1)).saturating_add(1) {
+        block.extend_from_slice(&request)?;
+    }
+    let mut spills = MemSpills::new(alloc, Vec::new(alloc));
+    let mut stream = Stream::new(alloc, LIMITS);
+    let mut counts = NONE;
+    for _ in 0..blocks {
+        for part in block.chunks(piece.max(1)) {
+            let units = stream.feed(alloc, 0, part, &mut spills)?;
+            count(&mut counts, units);
+            counts.bytes = counts.bytes.wrapping_add(part.len() as u64);
+        }
+    }
+    Ok(counts)
+}
