@@ -32,29 +32,55 @@ const UNDATED: &[u8] = b"HTTP/1.0 200 OK\r\n\
     Content-Type: application/octet-stream\r\n\
     Server: waitress\r\n\r\n";
 
-// What follows the status line and a Connection line, for a body of no bytes.
-const EMPTY: &[u8] = b"Content-Length: 0\r\n\
+const KEPT: &[u8] = b"HTTP/1.1 200 OK\r\n\
+    Content-Length: 0\r\n\
     Content-Type: application/octet-stream\r\n\
     Date: Sun, 06 Nov 1994 08:49:37 GMT\r\n\
     Server: waitress\r\n\r\n";
 
-const HELLO: &[u8] = b"Content-Length: 5\r\n\
+const KEPT_TWICE: &[u8] = b"HTTP/1.1 200 OK\r\n\
+    Content-Length: 0\r\n\
+    Content-Type: application/octet-stream\r\n\
+    Date: Sun, 06 Nov 1994 08:49:37 GMT\r\n\
+    Server: waitress\r\n\r\n\
+    HTTP/1.1 200 OK\r\n\
+    Content-Length: 0\r\n\
+    Content-Type: application/octet-stream\r\n\
+    Date: Sun, 06 Nov 1994 08:49:37 GMT\r\n\
+    Server: waitress\r\n\r\n";
+
+const ALIVE_TWICE: &[u8] = b"HTTP/1.0 200 OK\r\nConnection: Keep-Alive\r\n\
+    Content-Length: 0\r\n\
+    Content-Type: application/octet-stream\r\n\
+    Date: Sun, 06 Nov 1994 08:49:37 GMT\r\n\
+    Server: waitress\r\n\r\n\
+    HTTP/1.0 200 OK\r\nConnection: Keep-Alive\r\n\
+    Content-Length: 0\r\n\
+    Content-Type: application/octet-stream\r\n\
+    Date: Sun, 06 Nov 1994 08:49:37 GMT\r\n\
+    Server: waitress\r\n\r\n";
+
+const CONTINUED: &[u8] = b"HTTP/1.1 100 Continue\r\n\r\n\
+    HTTP/1.1 200 OK\r\n\
+    Content-Length: 5\r\n\
     Content-Type: application/octet-stream\r\n\
     Date: Sun, 06 Nov 1994 08:49:37 GMT\r\n\
     Server: waitress\r\n\r\n\
     hello";
 
-const SEVEN: &[u8] = b"Content-Length: 7\r\n\
+const CLOSED: &[u8] = b"HTTP/1.1 200 OK\r\nConnection: close\r\n\
+    Content-Length: 5\r\n\
+    Content-Type: application/octet-stream\r\n\
+    Date: Sun, 06 Nov 1994 08:49:37 GMT\r\n\
+    Server: waitress\r\n\r\n\
+    hello";
+
+const SEVEN: &[u8] = b"HTTP/1.1 200 OK\r\n\
+    Content-Length: 7\r\n\
     Content-Type: application/octet-stream\r\n\
     Date: Sun, 06 Nov 1994 08:49:37 GMT\r\n\
     Server: waitress\r\n\r\n\
     abcdefg";
-
-const KEPT: &[u8] = b"HTTP/1.1 200 OK\r\n";
-
-const KEPT_ALIVE: &[u8] = b"HTTP/1.0 200 OK\r\nConnection: Keep-Alive\r\n";
-
-const CLOSED: &[u8] = b"HTTP/1.1 200 OK\r\nConnection: close\r\n";
 
 const CONTINUE: &[u8] = b"HTTP/1.1 100 Continue\r\n\r\n";
 
@@ -99,8 +125,7 @@ struct Case<'a> {
     // how many connections were retired
     retired: u8,
     end: End,
-    // its parts
-    sent: &'a [&'a [u8]],
+    sent: &'a [u8],
     out: &'a [u8],
     err: &'a [u8],
 }
@@ -122,7 +147,7 @@ const SERVED: Case<'static> = Case {
     status: 0,
     retired: 1,
     end: End::Done,
-    sent: &[ANSWER],
+    sent: ANSWER,
     out: SERVING,
     err: b"",
 };
@@ -131,7 +156,7 @@ const SERVED: Case<'static> = Case {
 const ALONE: Case<'static> = Case {
     input: None,
     retired: 0,
-    sent: &[],
+    sent: b"",
     ..SERVED
 };
 
@@ -223,10 +248,6 @@ fn check<R: Threads + Wait + Abort + AllocGlobal + Sync>(
     let mut net = net(alloc, case)?;
     let mut out = MemSink::new(alloc, numbers(alloc, case.out_fails)?);
     let mut err = MemSink::new(alloc, Vec::new(alloc));
-    let mut sent = Vec::new(alloc);
-    for part in case.sent {
-        sent.extend_from_slice(part)?;
-    }
     let status = status_of(rt, &words, &mut net, &mut out, &mut err);
     assert_eq!(rt; status, case.status);
     assert_eq!(rt; out.written(), case.out);
@@ -237,7 +258,7 @@ fn check<R: Threads + Wait + Abort + AllocGlobal + Sync>(
             assert!(rt; case.retired == 1);
             assert!(rt; entry.end == case.end);
             assert_eq!(rt; entry.peer.port, 5000);
-            assert_eq!(rt; entry.link.sent(), sent.as_slice());
+            assert_eq!(rt; entry.link.sent(), case.sent);
         }
         _ => assert!(rt; false),
     }
@@ -250,7 +271,7 @@ fn a_connection_is_served(rt: HostRuntime) -> Result<(), Fail> {
         SERVED,
         Case {
             moment: YEAR_10000,
-            sent: &[UNDATED],
+            sent: UNDATED,
             ..SERVED
         },
         Case {
@@ -260,7 +281,7 @@ fn a_connection_is_served(rt: HostRuntime) -> Result<(), Fail> {
         // It ends before its head does.
         Case {
             input: Some(b"GET / HTTP/1.0\r\n"),
-            sent: &[],
+            sent: b"",
             ..SERVED
         },
         // Its head comes byte by byte.
@@ -274,7 +295,7 @@ fn a_connection_is_served(rt: HostRuntime) -> Result<(), Fail> {
             takes: 7,
             second_send_fails: true,
             end: End::LinkFault,
-            sent: &[b"HTTP/1."],
+            sent: b"HTTP/1.",
             ..SERVED
         },
         // It stays open, and is closed behind its answer.
@@ -289,7 +310,7 @@ fn a_connection_is_served(rt: HostRuntime) -> Result<(), Fail> {
             ends: false,
             stop_at: Some(40),
             end: End::ShutDown,
-            sent: &[KEPT, EMPTY],
+            sent: KEPT,
             ..SERVED
         },
         // It waits for 100 Continue before it sends its body.
@@ -300,7 +321,7 @@ fn a_connection_is_served(rt: HostRuntime) -> Result<(), Fail> {
             ends: false,
             stop_at: Some(40),
             end: End::ShutDown,
-            sent: &[CONTINUE],
+            sent: CONTINUE,
             ..SERVED
         },
         // It says nothing, and the net stops.
@@ -309,7 +330,7 @@ fn a_connection_is_served(rt: HostRuntime) -> Result<(), Fail> {
             ends: false,
             stop_at: Some(3),
             end: End::ShutDown,
-            sent: &[],
+            sent: b"",
             ..SERVED
         },
     ];
@@ -321,45 +342,45 @@ fn a_connection_is_served(rt: HostRuntime) -> Result<(), Fail> {
 
 #[test]
 fn requests_are_answered_in_order(rt: HostRuntime) -> Result<(), Fail> {
-    let rows: [(&[u8], &[&[u8]]); 11] = [
-        (TWO_REQUESTS, &[KEPT, EMPTY, KEPT, EMPTY]),
+    let rows: [(&[u8], &[u8]); 11] = [
+        (TWO_REQUESTS, KEPT_TWICE),
         // A bare LF ends no line.
-        (b"GET / HTTP/1.1\nHost: a\n\n", &[]),
+        (b"GET / HTTP/1.1\nHost: a\n\n", b""),
         // Nothing is answered behind a refusal.
         (
             b"POST / HTTP/1.1\r\nHost: a\r\nContent-Length: 5, 5\r\n\r\nhello\
             GET / HTTP/1.1\r\nHost: a\r\n\r\n",
-            &[BAD_LENGTH],
+            BAD_LENGTH,
         ),
-        (b"GET / HTTP/1.0\r\nHost : a\r\n\r\n", &[BAD_LINE]),
+        (b"GET / HTTP/1.0\r\nHost : a\r\n\r\n", BAD_LINE),
         (
             b"POST / HTTP/1.1\r\nHost: a\r\nExpect: 100-continue\r\nTransfer-Encoding: chunked\r\n\r\n\
             5\r\nhello\r\n0\r\n\r\n",
-            &[CONTINUE, KEPT, HELLO],
+            CONTINUED,
         ),
         // Both framing fields close, and the GET behind them is not answered.
         (
             b"POST / HTTP/1.1\r\nHost: a\r\nContent-Length: 3\r\nTransfer-Encoding: chunked\r\n\r\n\
             5\r\nhello\r\n0\r\n\r\nGET / HTTP/1.1\r\nHost: a\r\n\r\n",
-            &[CLOSED, HELLO],
+            CLOSED,
         ),
         (
             b"GET / HTTP/1.0\r\nConnection: Keep-Alive\r\n\r\n\
             GET / HTTP/1.0\r\nConnection: Keep-Alive\r\n\r\n",
-            &[KEPT_ALIVE, EMPTY, KEPT_ALIVE, EMPTY],
+            ALIVE_TWICE,
         ),
         // Blank lines in front are no request.
-        (b"\r\n\r\nGET / HTTP/1.1\r\nHost: a\r\n\r\n", &[KEPT, EMPTY]),
+        (b"\r\n\r\nGET / HTTP/1.1\r\nHost: a\r\n\r\n", KEPT),
         (
             b"POST / HTTP/1.1\r\nHost: a\r\nContent-Length: 007\r\n\r\nabcdefg",
-            &[KEPT, SEVEN],
+            SEVEN,
         ),
         // It ends within its body.
         (
             b"POST / HTTP/1.1\r\nHost: a\r\nExpect: 100-continue\r\nContent-Length: 7\r\n\r\nabc",
-            &[CONTINUE],
+            CONTINUE,
         ),
-        (b"HEAD / HTTP/1.1\r\nHost: a\r\n\r\n", &[KEPT, EMPTY]),
+        (b"HEAD / HTTP/1.1\r\nHost: a\r\n\r\n", KEPT),
     ];
     for (input, sent) in rows {
         check(
@@ -403,7 +424,7 @@ fn a_run_ends_with_its_status(rt: HostRuntime) -> Result<(), Fail> {
             out_fails: true,
             status: 6,
             retired: 0,
-            sent: &[],
+            sent: b"",
             out: b"",
             ..SERVED
         },
@@ -422,7 +443,7 @@ fn requests_are_cut_anywhere(rt: HostRuntime) -> Result<(), Fail> {
             &Case {
                 input: Some(TWO_REQUESTS),
                 cut,
-                sent: &[KEPT, EMPTY, KEPT, EMPTY],
+                sent: KEPT_TWICE,
                 ..SERVED
             },
         )?;
