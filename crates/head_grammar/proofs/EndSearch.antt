@@ -9,7 +9,8 @@ use Rattle.std.proofs.lemmas.Bool.Decides.{leb_tells}
 use Rattle.memchr.specs.Find.{OccursAt, FindsNeedle}
 use Rattle.memchr.proofs.lemmas.MatchLemmas.{OccursAt-part, OccursAt-from_part}
 use Rattle.head_grammar.specs.Ends.{head_end, head_mark}
-use Rattle.head_grammar.proofs.Occurs.{occurs_before, finds_none, finds_some, occurs_front, occurs_drop, occurs_whole, rest_is}
+use Rattle.byte_tables.proofs.Cuts.{rest_is}
+use Rattle.head_grammar.proofs.Occurs.{occurs_before, finds_none, finds_some, occurs_front, occurs_drop, occurs_whole}
 
 -- the four bytes at the front are the mark
 at_front : (b : ℕ) (bs : List ℕ) → take 4 (b ∷ bs) ≡ head_mark → OccursAt (b ∷ bs) head_mark 0

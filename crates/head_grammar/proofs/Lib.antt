@@ -6,7 +6,6 @@ mod Firsts
 mod ListEnds
 mod OneByOne
 mod Places
-mod Cuts
 mod KeptFields
 mod LineSearch
 mod Names

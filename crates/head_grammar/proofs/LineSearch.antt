@@ -7,7 +7,8 @@ use Rattle.std.proofs.lemmas.Bool.Decides.{nat_tests}
 use Rattle.memchr.specs.Find.{OccursAt, FindsNeedle}
 use Rattle.memchr.proofs.lemmas.MatchLemmas.{OccursAt-part, OccursAt-from_part}
 use Rattle.head_grammar.specs.Lines.{lines, skip_empty}
-use Rattle.head_grammar.proofs.Occurs.{finds_none, finds_some, rest_is}
+use Rattle.byte_tables.proofs.Cuts.{rest_is}
+use Rattle.head_grammar.proofs.Occurs.{finds_none, finds_some}
 
 abbrev line_mark : List ℕ
 line_mark = 13 ∷ 10 ∷ []

@@ -46,7 +46,3 @@ occurs_whole text needle start k some h = record {
   fits = let f = h.fits in let l = length-drop start text in omega arith;
   reads = λ j l. ap (λ m. get_or text m 0) (let e : start + k + j ≡ start + (k + j) = omega arith in e) ∙ (sym (get_or-drop start text (k + j) 0) ∙ h.reads j l);
 }
-
--- the slice of a text from a place on
-pub rest_is : (text : List ℕ) (start : ℕ) → take (length text - start) (drop start text) ≡ drop start text
-rest_is text start = take_all (length text - start) (drop start text) (let l = length-drop start text in omega arith)

@@ -37,7 +37,7 @@ fn trim_behind(bytes: &[u8]) -> &[u8]
 
 /// The bytes without the white space at both ends.
 pub fn trim(bytes: &[u8]) -> &[u8]
-    ensures { result.now ≡ trimmed bytes.now }
+    ensures value { result.now ≡ trimmed bytes.now }
 {
     trim_behind(trim_front(bytes))
 }
@@ -48,8 +48,9 @@ pub fn are_token_bytes(bytes: &[u8]) -> bool
     bytes.iter().all(|byte| byte_tables::is_token(*byte))
 }
 
+/// Whether a value or a reason can have all these bytes (RFC 9110, section 5.5).
 pub fn are_field_bytes(bytes: &[u8]) -> bool
-    ensures { result ≡ list_all is_field bytes.now }
+    ensures bytes { result ≡ list_all is_field bytes.now }
 {
     bytes.iter().all(|byte| byte_tables::is_field(*byte))
 }

@@ -8,8 +8,9 @@ use byte_tables::Refusal;
 use outside::Bytes;
 use std::alloc::{AllocError, Global};
 
-fn is_name(bytes: &[u8]) -> bool
-    ensures { result ≡ spec.is_name bytes.now }
+/// Whether a text is a token, as a name is (RFC 9110, section 5.1).
+pub fn is_name(bytes: &[u8]) -> bool
+    ensures name { result ≡ spec.is_name bytes.now }
 {
     !bytes.is_empty() && are_token_bytes(bytes)
 }

@@ -1,17 +1,13 @@
 //! How long a body is, and what a head says of the connection.
-ghost use Rattle.std.specs.Prelude.{◌≡◌, ◌<◌, ◌+◌, ◌*◌, ◌^◌, SomeIff, IsTrue, codes};
-ghost use Rattle.std.specs.List.{list_all};
+ghost use Rattle.std.specs.Prelude.{◌≡◌, codes};
 ghost use Rattle.std.specs.Str.{str_eq_ignore_ascii_case};
-ghost use Rattle.std.specs.Char.{digit_value};
-ghost use Rattle.std.specs.Str.Parse.{digits_value};
-ghost use Rattle.byte_tables.specs.Classes as classes;
 ghost use Rattle.head_grammar.specs.FieldLines.{field_value};
 ghost use Rattle.head_grammar.specs.Framings as spec;
 
 use crate::classes::trim;
 use crate::fields::value_of;
+use crate::numbers::{is_number, number_of};
 use crate::{Field, Framing, Refusal, Version};
-use byte_tables::is_digit;
 
 // ASCII letters are compared without case.
 fn is_text(value: &[u8], text: &[u8]) -> bool
@@ -20,36 +16,10 @@ fn is_text(value: &[u8], text: &[u8]) -> bool
     value.eq_ignore_ascii_case(text)
 }
 
-fn are_digits(value: &[u8]) -> bool
-    ensures { result ≡ list_all classes.is_digit value.now }
-{
-    value.iter().all(|byte| is_digit(*byte))
-}
-
-// The number with one more digit, where a u64 can be it.
-fn with_digit(number: u64, digit: u8) -> Option<u64>
-    requires { IsTrue (classes.is_digit digit) }
-    ensures { SomeIff result (number * 10 + digit_value digit < 2 ^ 64) (number * 10 + digit_value digit) }
-{
-    number.checked_mul(10)?.checked_add(u64::from(digit - b'0'))
-}
-
-// The number, where a u64 can be it.
-fn number_of(digits: &[u8]) -> Option<u64>
-    requires { IsTrue (list_all classes.is_digit digits.now) }
-    ensures { SomeIff result (digits_value 10 digits.now < 2 ^ 64) (digits_value 10 digits.now) }
-{
-    let mut number = 0;
-    for digit in digits {
-        number = with_digit(number, *digit)?;
-    }
-    Some(number)
-}
-
 fn by_length(value: &[u8], max_body: u64) -> Result<Framing, Refusal>
     ensures { result ≡ spec.by_length max_body value.now }
 {
-    if value.is_empty() || !are_digits(value) {
+    if !is_number(value) {
         return Err(Refusal::Length);
     }
     match number_of(value) {

@@ -9,6 +9,7 @@ mod field_lines;
 mod fields;
 mod framing;
 mod lines;
+mod numbers;
 mod request_line;
 mod splits;
 mod targets;
@@ -16,7 +17,10 @@ mod types;
 mod verdict;
 
 pub use byte_tables::Refusal;
+pub use classes::{are_field_bytes, trim};
 pub use ends::head_end;
+pub use field_line::is_name;
 pub use fields::value_of;
+pub use numbers::{is_number, number_of};
 pub use types::{Field, Framing, Head, Parsed, Version};
 pub use verdict::read_head;

@@ -1,5 +1,5 @@
 -- Where the head that is sought ends in the piece.
-use Rattle.std.proofs.Common.{false, ◌≡◌, ◌≤◌, ◌<◌, ◌+◌, ◌-◌, ℕ, min, List, [], ◌++◌, length, take, drop, None, Some, ap, sym, subst, ◌∙◌, arith, length-append, inl}
+use Rattle.std.proofs.Common.{false, ◌≡◌, ◌≤◌, ◌<◌, ◌+◌, ◌-◌, ℕ, min, List, ◌++◌, length, take, drop, None, Some, ap, sym, subst, ◌∙◌, arith, length-append, inl}
 use Rattle.std.specs.Prelude.{Option, Result, Ok, Err, IfOk}
 use Rattle.std.proofs.lemmas.List.{take-take, length-take, take-append-drop, take_min}
 use Rattle.std.proofs.Math.Seq.{take-append-add}
@@ -74,9 +74,3 @@ seek_reads (Err e) limits old held piece now us vs h over is o t k = tt
 seek_reads (Ok s) limits old held piece now us vs h over is o t k =
     let low = t.0 in let high = t.1 in let l = length-take s.taken piece in
     reads_seek limits old s.state held (take s.taken piece) now us vs h over is o (omega arith) k
-
-pub seek_reads_first : {S E : Type 0} (r : Result (Step S) E) (limits : Limits) (old : State S) (held piece : List ℕ) (now : ℕ) (us vs : List Asked) → 0 < limits.max_head → is_over old ≡ false →
-    ((z : List (ℕ × ℕ)) → StandsFor limits old z → bytes_of z ≡ held) → IsSoundHead limits held → held ≡ [] → IfOk r (λ s. (0 < s.taken) × (s.taken ≤ length piece)) →
-    IfOk r (λ s. SeeksOn limits [] (take s.taken piece) now s.state us vs) → IfOk r (λ s. Reads limits old s.state (stamped now (take s.taken piece)) us vs)
-seek_reads_first r limits old held piece now us vs h over is o none t k =
-    seek_reads r limits old [] piece now us vs h over (λ z s. is z s ∙ none) (subst (IsSoundHead limits) none o) t k

@@ -1,11 +1,10 @@
 //! A piece goes on with a head.
-ghost use Rattle.std.specs.Prelude.{◌≡◌, ◌≤◌, ◌<◌, ◌-◌, ◌+◌, ◌^◌, ◌++◌, ◌∷◌, [], ℕ, None, Some, length, take, map, IfOk, IfErr, IfSome, OnOk, OnErr, IsTrue};
+ghost use Rattle.std.specs.Prelude.{◌≡◌, ◌≤◌, ◌<◌, ◌-◌, ◌+◌, ◌^◌, ◌++◌, ◌∷◌, [], ℕ, None, Some, length, take, map, IfOk, IfErr, IfSome, OnOk, OnErr};
 ghost use Rattle.head_grammar.specs.Ends.{head_end as end_of};
 ghost use Rattle.head_grammar.specs.Verdict.{verdict};
 ghost use Rattle.request_stream.specs.Asks.{asks, sizes, IsCaused};
-ghost use Rattle.request_stream.specs.Reading.{Reads, Shuts, IsSound, IsSoundHead, ArePositive, OpensBy, LeadsBy, EndsBy, KeepsHead, SeeksOn};
+ghost use Rattle.request_stream.specs.Reading.{IsSound, IsSoundHead, ArePositive, OpensBy, LeadsBy, EndsBy, KeepsHead, SeeksOn};
 ghost use Rattle.request_stream.specs.Room.{Holds, held_of};
-ghost use Rattle.request_stream.specs.Units.{stamped};
 
 use crate::state::{CodedPart, FixedPart, State, Step};
 use crate::types::{Limits, StreamFault, Unit};
@@ -141,41 +140,6 @@ fn seek_first<S: Spill + Drop, P: Spills<Spill = S>>(
     Ok(Step { state, taken })
 }
 
-// The first bytes of the head are held.
-fn seek_on<S: Spill + Drop, P: Spills<Spill = S>>(
-    alloc: Global,
-    limits: &Limits,
-    held: Vec<u8>,
-    now: u64,
-    piece: &[u8],
-    spills: &mut P,
-    given: &mut Vec<Unit<S>>,
-) -> Result<Step<S>, StreamFault<S>>
-    requires some { 0 < length piece.now }
-    requires positive { ArePositive limits.now }
-    requires sound { IsSoundHead limits.now held.items }
-    ensures taken { IfOk result (λ s. (0 < s.taken) × (s.taken ≤ length piece.now)) }
-    ensures sound { IfOk result (λ s. IsSound limits.now s.state) }
-    ensures holds { IfOk result (λ s. held_of s.state + sizes given.new.items ≤ length held.items + sizes given.old.items + s.taken) }
-    ensures seeks { IfOk result (λ s. SeeksOn limits.now held.items (take s.taken piece.now) now s.state (map asks given.old.items) (map asks given.new.items)) }
-    ensures cause { IfErr result (λ f. IsCaused S.faults f) }
-    ensures spills { P.faults spills.new ≡ P.faults spills.old }
-{
-    let mut bytes = held;
-    let before = bytes.len();
-    let taken = (piece.len() as u64).min(limits.max_head - before as u64) as usize;
-    bytes.extend_from_slice(&piece[..taken])?;
-    if let Some(end) = end_within(bytes.as_slice(), before, limits.max_head) {
-        let state = lead(alloc, limits, &bytes[..end], now, spills, given)?;
-        return Ok(Step {
-            state,
-            taken: end - before,
-        });
-    }
-    let state = keep(limits, bytes, now, given)?;
-    Ok(Step { state, taken })
-}
-
 /// Bytes of a head are there, or none.
 pub(crate) fn seek<S: Spill + Drop, P: Spills<Spill = S>>(
     alloc: Global,
@@ -192,13 +156,24 @@ pub(crate) fn seek<S: Spill + Drop, P: Spills<Spill = S>>(
     ensures taken { IfOk result (λ s. (0 < s.taken) × (s.taken ≤ length piece.now)) }
     ensures sound { IfOk result (λ s. IsSound limits.now s.state) }
     ensures holds { IfOk result (λ s. Holds (State.Seeking held) s.state s.taken given.old.items given.new.items) }
-    ensures shuts { IfOk result (λ s. Shuts (State.Seeking held) s.state (map asks given.old.items) (map asks given.new.items)) }
-    ensures reads { IsTrue S.tells → IfOk result (λ s. Reads limits.now (State.Seeking held) s.state (stamped now (take s.taken piece.now)) (map asks given.old.items) (map asks given.new.items)) }
+    ensures seeks { IfOk result (λ s. SeeksOn limits.now held.items (take s.taken piece.now) now s.state (map asks given.old.items) (map asks given.new.items)) }
     ensures cause { IfErr result (λ f. IsCaused S.faults f) }
     ensures spills { P.faults spills.new ≡ P.faults spills.old }
 {
     if held.is_empty() {
         return seek_first(alloc, limits, now, piece, spills, given);
     }
-    seek_on(alloc, limits, held, now, piece, spills, given)
+    let mut bytes = held;
+    let before = bytes.len();
+    let taken = (piece.len() as u64).min(limits.max_head - before as u64) as usize;
+    bytes.extend_from_slice(&piece[..taken])?;
+    if let Some(end) = end_within(bytes.as_slice(), before, limits.max_head) {
+        let state = lead(alloc, limits, &bytes[..end], now, spills, given)?;
+        return Ok(Step {
+            state,
+            taken: end - before,
+        });
+    }
+    let state = keep(limits, bytes, now, given)?;
+    Ok(Step { state, taken })
 }

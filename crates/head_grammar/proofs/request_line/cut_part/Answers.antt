@@ -2,8 +2,7 @@
 use Rattle.std.proofs.Common.{◌≡◌, ◌+◌, ◌∷◌, [], List, ℕ, sym, ap, subst, ◌∙◌, take}
 use Rattle.std.specs.Prelude.{IfNone, ◌==◌}
 use Rattle.head_grammar.specs.RequestLines.{parts}
-use Rattle.head_grammar.proofs.Cuts.{cut_some, cut_none}
-use Rattle.head_grammar.proofs.Occurs.{rest_is}
+use Rattle.byte_tables.proofs.Cuts.{cut_some, cut_none, rest_is}
 use Rattle.head_grammar.proofs.request_line.cut_part.Goals as goal
 
 pub returns-in_err-at-clause-whole : goal.returns-in_err-at-clause-whole

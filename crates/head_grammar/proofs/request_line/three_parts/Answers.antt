@@ -1,7 +1,7 @@
 -- A line of more than three parts.
 use Rattle.std.proofs.Common.{ap, length, arith}
 use Rattle.std.specs.Prelude.{◌==◌}
-use Rattle.head_grammar.proofs.Cuts.{some_part}
+use Rattle.byte_tables.proofs.Cuts.{some_part}
 use Rattle.head_grammar.proofs.request_line.three_parts.Goals as goal
 
 pub returns-in-Some-clause-others : goal.returns-in-Some-clause-others

@@ -1,5 +1,5 @@
-use Rattle.std.proofs.Common.{◌≡◌, ◌∙◌, ap, ◌++◌, subst, true, []}
-use Rattle.std.specs.Prelude.{map, IfOk}
+use Rattle.std.proofs.Common.{◌∙◌, ap, ◌++◌}
+use Rattle.std.specs.Prelude.{map}
 use Rattle.request_stream.specs.Asks.{asks}
 use Rattle.request_stream.specs.Story.{Story}
 use Rattle.request_stream.specs.Units.{stamped}

@@ -1,8 +1,9 @@
 -- A list that is cut at each element that passes a test.
-use Rattle.std.proofs.Common.{◌≡◌, ◌≤◌, ◌<◌, ◌+◌, ℕ, Bool, true, false, List, [], ◌∷◌, length, take, drop, None, Some, refl, ap, subst, cond, arith}
+use Rattle.std.proofs.Common.{◌≡◌, ◌≤◌, ◌<◌, ◌+◌, ◌-◌, ℕ, Bool, true, false, List, [], ◌∷◌, length, take, drop, None, Some, refl, ap, subst, cond, arith}
 use Rattle.std.specs.Prelude.{not, nat_lt, position}
 use Rattle.std.specs.List.{slice_split, onto_first, position_or_len}
 use Rattle.std.proofs.lemmas.Bool.{ltb-true, ltb-false}
+use Rattle.std.proofs.lemmas.List.{length-drop, take_all}
 use Rattle.std.proofs.lemmas.List.Splits.{slice_split_first, length-slice_split}
 
 module _ (p : ℕ → Bool) where
@@ -40,3 +41,7 @@ module _ (p : ℕ → Bool) where
   -- a list has a part at least
   pub some_part : (xs : List ℕ) → 0 < length (slice_split p xs)
   some_part xs = let e = length-slice_split p xs in omega arith
+
+-- the slice of a text from a place on
+pub rest_is : (text : List ℕ) (start : ℕ) → take (length text - start) (drop start text) ≡ drop start text
+rest_is text start = take_all (length text - start) (drop start text) (let l = length-drop start text in omega arith)
