@@ -1,7 +1,3 @@
 mod Chains
-mod Digits
-mod Ends
-mod KeptLemmas
-mod NewValues
 mod Parts
-mod Splits
+mod Places

@@ -1,10 +1,10 @@
 -- The last parts of a list, behind references and as they are.
-use Rattle.std.proofs.Common.{◌≡◌, ◌-◌, ◌≤◌, ℕ, true, false, List, [], ◌∷◌, ◌++◌, append_assoc, length, take, drop, Bor, refl, ap, sym, ◌∙◌}
-use Rattle.std.specs.Prelude.{codes, flat_map, ◌==◌, option_and_then, None, Some, map, ◌||◌, if◌then◌else◌}
-use Rattle.std.specs.List.{list_any, slice_split}
+use Rattle.std.proofs.Common.{◌≡◌, ◌-◌, ◌≤◌, ℕ, true, false, List, [], ◌∷◌, ◌++◌, length, take, drop, Bor, refl, ap, sym, ◌∙◌}
+use Rattle.std.specs.Prelude.{codes, flat_map, option_and_then, None, Some, map, ◌||◌, if◌then◌else◌}
+use Rattle.std.specs.List.{list_any}
 use Rattle.std.proofs.lemmas.List.{length-map, drop-map, take_all}
 use Rattle.std.proofs.lemmas.List.Folds.{flat_map-map}
-use Rattle.proxy_trust.specs.Lists.{is_empty, last_of, listed, listed_of, parts, trimmed, joined}
+use Rattle.proxy_trust.specs.Lists.{is_empty, last_of, listed, listed_of, parts, joined}
 
 abbrev pub seen_parts : List (Bor (List ℕ)) → List (List ℕ)
 seen_parts ps = map (λ part. part.now) ps
@@ -33,11 +33,6 @@ pub some_listed : (count : ℕ) (value : List ℕ) (ps : List (Bor (List ℕ))) 
 some_listed count value ps same empty =
     ap (λ xs. option_and_then listed_of (last_of count xs)) (sym same) ∙ (ap (option_and_then listed_of) (last_seen count ps) ∙
     ap (λ t. option_and_then listed_of (if t then None else Some (seen_parts (drop (length ps - count) ps)))) empty)
-
--- the parts so far, and those of what is left
-pub parts_step : (value part behind : List ℕ) (before : List (List ℕ)) → slice_split (λ b. b == 44) value ≡ part ∷ slice_split (λ b. b == 44) behind →
-    before ++ parts value ≡ (before ++ trimmed part ∷ []) ++ parts behind
-parts_step value part behind before e = ap (λ xs. before ++ map trimmed xs) e ∙ sym (append_assoc before (trimmed part ∷ []) (parts behind))
 
 -- the first part, and all others behind a comma
 pub joined_is : (ps rest : List (Bor (List ℕ))) (first : Bor (List ℕ)) (text front : List ℕ) (i : ℕ) → ps ≡ first ∷ rest → front ≡ first.now →

@@ -1,10 +1,8 @@
 -- The headers by which a proxy tells what it was asked: `Forwarded` (RFC 7239, section 4), and the
 -- `X-Forwarded-` family that it stands for. Names are in lower case, as where a head was read.
-use Rattle.std.specs.Prelude.{ℕ, Bool, true, false, List, [], ◌∷◌, Option, codes, option_map, find}
-use Rattle.std.specs.Borrow.{Bor}
+use Rattle.std.specs.Prelude.{ℕ, Bool, true, false, List, [], ◌∷◌, codes}
 use Rattle.std.specs.List.{list_any}
 use Rattle.std.specs.Str.{bytes_eq}
-use Rattle.head_grammar.specs.declared.types.Field.{Field}
 use Rattle.outside.specs.declared.types.Kind.{Kind}
 use Rattle.outside.specs.declared.types.Kind.TheVariants.{Forwarded, For, Host, Proto, Port, By}
 
@@ -34,16 +32,3 @@ is_kind _ _ = false
 -- whether a kind stands in the list
 abbrev pub is_listed : Kind → List Kind → Bool
 is_listed kind kinds = list_any (λ k. is_kind k kind) kinds
-
--- whether a field of this name stands in the list
-abbrev pub has_name : List ℕ → List Field → Bool
-has_name name fields = list_any (λ field. bytes_eq field.name name) fields
-
--- a value that may be there, as it stands behind a reference
-abbrev pub shown : Option (Bor (List ℕ)) → Option (List ℕ)
-shown value = option_map (λ bytes. bytes.now) value
-
--- the value of the first field of this name
-abbrev pub value_of : List ℕ → List Field → Option (List ℕ)
-value_of name fields =
-    option_map (λ field. field.value) (find (λ field. bytes_eq field.name name) fields)

@@ -1,19 +1,10 @@
--- Values that are lists, to which each proxy adds a part behind the others (RFC 9110,
--- section 5.6.1; RFC 7239, section 7.1).
-use Rattle.std.specs.Prelude.{ℕ, Bool, ◌==◌, ◌||◌, ◌-◌, List, [], ◌∷◌, length, take, drop, map, codes, Option, None, Some, option_and_then, if◌then◌else◌}
-use Rattle.std.specs.List.{list_any, slice_split, prefix_len, suffix_len, join_by}
-use Rattle.proxy_trust.specs.declared.lists.Route.{Route}
-
--- SP and HTAB, of which optional white space is made (RFC 9110, section 5.6.3)
-abbrev pub is_white_space : ℕ → Bool
-is_white_space b = b == 32 || b == 9
-
--- without the white space behind, and at both ends
-abbrev pub without_space_behind : List ℕ → List ℕ
-without_space_behind bytes = take (length bytes - suffix_len is_white_space bytes) bytes
-
-abbrev pub trimmed : List ℕ → List ℕ
-trimmed bytes = without_space_behind (drop (prefix_len is_white_space bytes) bytes)
+-- Values that are lists, to which each proxy adds a part behind the others (RFC 7239, section 7.1).
+-- They are read more strictly than RFC 9110 asks for: its section 5.6.1 has empty parts ignored,
+-- and here a list with one is malformed.
+use Rattle.std.specs.Prelude.{ℕ, Bool, ◌==◌, ◌-◌, List, [], ◌∷◌, length, drop, map, codes, Option, None, Some, option_and_then, if◌then◌else◌}
+use Rattle.std.specs.List.{list_any, slice_split, join_by}
+use Rattle.head_grammar.specs.Classes.{trimmed}
+use Rattle.proxy_trust.specs.declared.lists.LastParts.{LastParts}
 
 -- the parts between the commas
 abbrev pub parts : List ℕ → List (List ℕ)
@@ -37,8 +28,8 @@ pub record Listed : Type 0 where
   pub chosen : List ℕ
 
 -- the same, where the part stands behind a reference
-abbrev pub seen : Route → Listed
-seen route = record { kept = route.kept; chosen = route.chosen.now }
+abbrev pub seen : LastParts → Listed
+seen last = record { kept = last.kept; chosen = last.chosen.now }
 
 -- those of the parts that count; at least one proxy counts, so there is one
 abbrev pub listed_of : List (List ℕ) → Option Listed

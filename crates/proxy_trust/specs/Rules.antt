@@ -1,11 +1,12 @@
 -- Whose headers are believed, and which of them.
 use Rattle.std.specs.Prelude.{◌≡◌, ◌≤◌, ℕ, Bool, false, List, Option, None, Some, codes, ◌&&◌, ◌||◌, if◌then◌else◌}
 use Rattle.std.specs.Str.{bytes_eq}
+use Rattle.head_grammar.specs.FieldLines.{field_value}
 use Rattle.head_grammar.specs.declared.types.Field.{Field}
 use Rattle.outside.specs.declared.types.Kind.{Kind}
 use Rattle.outside.specs.declared.types.Kind.TheVariants.{Forwarded}
 use Rattle.outside.specs.declared.types.Peer.{Peer}
-use Rattle.proxy_trust.specs.Headers.{name_of, is_listed, value_of}
+use Rattle.proxy_trust.specs.Headers.{name_of, is_listed}
 use Rattle.proxy_trust.specs.declared.types.ProxyRules.{ProxyRules}
 
 -- at least one proxy counts, and `Forwarded` is not believed yet
@@ -18,9 +19,9 @@ abbrev pub is_proxy : Option (List ℕ) → List ℕ → Bool
 is_proxy None address = false
 is_proxy (Some proxy) address = bytes_eq proxy (codes "*") || bytes_eq proxy address
 
--- what a header says that is used: the peer is trusted, its kind is, and its field is there
+-- the value of a header that is believed, where there is one: that of its first field
 abbrev pub used : ProxyRules → Peer → List Field → Kind → Option (List ℕ)
 used rules peer fields kind =
     if is_proxy rules.proxy peer.addr && is_listed kind rules.kinds
-    then value_of (name_of kind) fields
+    then field_value (name_of kind) fields
     else None

@@ -1,10 +1,9 @@
 //! An address with an optional port.
-ghost use Rattle.std.specs.Prelude.{◌≡◌, ◌<◌, ◌≤◌, ◌==◌, ◌∷◌, [], length, option_map, position, IfOk, IfNone, IfSome, IsTrue};
-ghost use Rattle.std.specs.List.{list_all, slice_split};
-ghost use Rattle.std.specs.Str.Parse.{digits_value};
+ghost use Rattle.std.specs.Prelude.{◌≡◌, ◌<◌, ◌==◌, length, option_map, position, IfOk, IfSome};
+ghost use Rattle.std.specs.List.{list_all};
 ghost use Rattle.proxy_trust.specs.Endpoints as spec;
 
-use crate::cuts::cut;
+use head_grammar::{is_number, number_of};
 use outside::Bytes;
 use std::alloc::{AllocError, Global};
 
@@ -33,29 +32,11 @@ fn is_address(bytes: &[u8]) -> bool
     !bytes.is_empty() && are_address_bytes(bytes)
 }
 
-fn are_digits(bytes: &[u8]) -> bool
-    ensures { result ≡ list_all spec.is_digit bytes.now }
-{
-    bytes.iter().all(|byte| byte.is_ascii_digit())
-}
-
-fn number_of(digits: &[u8]) -> u32
-    requires digits { IsTrue (list_all spec.is_digit digits.now) }
-    requires few { length digits.now ≤ 5 }
-    ensures { result ≡ digits_value 10 digits.now }
-{
-    let mut number = 0;
-    for digit in digits {
-        number = number * 10 + u32::from(*digit - b'0');
-    }
-    number
-}
-
-/// Whether these bytes are one to five digits that write a number from 1 to 65535.
+/// Whether these bytes write a port (RFC 7239, section 6) that TCP has.
 pub fn is_port(bytes: &[u8]) -> bool
     ensures { result ≡ spec.is_port bytes.now }
 {
-    matches!(bytes.len(), 1..=5) && are_digits(bytes) && matches!(number_of(bytes), 1..=65_535)
+    bytes.len() <= 5 && is_number(bytes) && matches!(number_of(bytes), Some(1..=65_535))
 }
 
 fn only_address(alloc: Global, address: &[u8]) -> Result<Option<Endpoint>, AllocError>
@@ -82,49 +63,45 @@ fn with_port(alloc: Global, address: &[u8], port: &[u8]) -> Result<Option<Endpoi
     }))
 }
 
-fn bracket_in(bytes: &[u8]) -> Option<usize>
-    ensures place { result ≡ position (λ b. b == 93) bytes.now }
+fn place_of(bytes: &[u8], sought: u8) -> Option<usize>
+    ensures place { result ≡ position (λ b. b == sought) bytes.now }
     ensures within { IfSome result (λ at. at < length bytes.now) }
 {
-    bytes.iter().position(|byte| *byte == b']')
+    bytes.iter().position(|byte| *byte == sought)
+}
+
+// What stands before and behind the first byte that is `at`.
+fn cut(bytes: &[u8], at: u8) -> Option<(&[u8], &[u8])>
+    ensures { option_map (λ cut. (cut.0.now, cut.1.now)) result ≡ spec.cut at bytes.now }
+{
+    let place = place_of(bytes, at)?;
+    Some((&bytes[..place], &bytes[place + 1..]))
 }
 
 // The bytes behind an opening bracket.
 fn read_bracketed(alloc: Global, bytes: &[u8]) -> Result<Option<Endpoint>, AllocError>
     ensures { IfOk result (λ endpoint. endpoint ≡ spec.bracketed bytes.now) }
 {
-    let Some(at) = bracket_in(bytes) else {
+    let Some((address, behind)) = cut(bytes, b']') else {
         return Ok(None);
     };
-    let address = &bytes[..at];
-    match bytes[at + 1..].split_first() {
+    match behind.split_first() {
         None => only_address(alloc, address),
         Some((b':', port)) => with_port(alloc, address, port),
         Some(_) => Ok(None),
     }
 }
 
-// What stands before and behind a colon, where there is exactly one.
-fn cut_once(part: &[u8]) -> Option<(&[u8], &[u8])>
-    ensures { option_map (λ cut. (cut.0.now, cut.1.now)) result ≡ spec.cut_once part.now }
-{
-    let (address, port) = cut(part, b':')?;
-    match cut(port, b':') {
-        Some(_) => None,
-        None => Some((address, port)),
-    }
-}
-
 fn read_bare(alloc: Global, part: &[u8]) -> Result<Option<Endpoint>, AllocError>
     ensures { IfOk result (λ endpoint. endpoint ≡ spec.bare part.now) }
 {
-    match cut_once(part) {
-        Some((address, port)) => with_port(alloc, address, port),
-        None => only_address(alloc, part),
+    match cut(part, b':') {
+        Some((address, port)) if !port.contains(&b':') => with_port(alloc, address, port),
+        _ => only_address(alloc, part),
     }
 }
 
-/// What a part of a list says, or None where it has not the form of an endpoint.
+/// What a part of a list says, or None where it is no endpoint.
 pub fn read_endpoint(alloc: Global, part: &[u8]) -> Result<Option<Endpoint>, AllocError>
     ensures { IfOk result (λ endpoint. endpoint ≡ spec.endpoint part.now) }
 {

@@ -1,10 +1,10 @@
 //! The proxy headers, and which of them are used.
-ghost use Rattle.std.specs.Prelude.{◌≡◌};
+ghost use Rattle.std.specs.Prelude.{◌≡◌, option_copied};
 ghost use Rattle.proxy_trust.specs.Headers as spec;
 ghost use Rattle.proxy_trust.specs.Rules as rule;
 
 use crate::ProxyRules;
-use head_grammar::Field;
+use head_grammar::{Field, value_of};
 use outside::{Bytes, Kind, Peer};
 
 /// The name of a kind's header, in lower case.
@@ -44,13 +44,6 @@ pub fn is_listed(kind: Kind, kinds: &[Kind]) -> bool
     kinds.contains(&kind)
 }
 
-fn value_of<'a>(name: &[u8], fields: &'a [Field]) -> Option<&'a [u8]>
-    ensures { spec.shown result ≡ spec.value_of name.now fields.now }
-{
-    let field = fields.iter().find(|field| field.name.as_slice() == name)?;
-    Some(field.value.as_slice())
-}
-
 fn is_proxy(proxy: &Option<Bytes>, address: &[u8]) -> bool
     ensures { result ≡ rule.is_proxy proxy.now address.now }
 {
@@ -60,20 +53,19 @@ fn is_proxy(proxy: &Option<Bytes>, address: &[u8]) -> bool
     }
 }
 
-/// The value of a header that is used: of the first field of its name.
+/// The value of a header that is believed, where there is one.
 pub fn used<'a>(
     rules: &ProxyRules,
     peer: &Peer,
     fields: &'a [Field],
     kind: Kind,
 ) -> Option<&'a [u8]>
-    ensures { spec.shown result
-        ≡ rule.used rules.now peer.now fields.now kind }
+    ensures { option_copied result ≡ rule.used rules.now peer.now fields.now kind }
 {
     let believed = is_proxy(&rules.proxy, peer.addr.as_slice())
         && is_listed(kind, rules.kinds.as_slice());
     if !believed {
         return None;
     }
-    value_of(name_of(kind), fields)
+    value_of(fields, name_of(kind))
 }

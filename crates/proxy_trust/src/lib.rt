@@ -2,7 +2,6 @@
 //! `X-Forwarded-` family, for which `Forwarded` (RFC 7239) is the standard's name.
 #![tactic(auto)]
 
-mod cuts;
 mod endpoint;
 mod headers;
 mod keeping;
@@ -14,7 +13,6 @@ mod shown;
 mod tests;
 mod trusting;
 mod types;
-mod values;
 
 pub use trusting::trust;
 pub use types::{ProxyFault, ProxyRules, Trusted};

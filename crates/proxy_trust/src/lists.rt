@@ -1,63 +1,19 @@
 //! Values that are lists.
-ghost use Rattle.std.specs.Prelude.{◌≡◌, ◌<◌, ◌≤◌, ◌==◌, ◌-◌, codes, drop, length, map, not, option_map, position, reverse, IfOk, IfSome};
-ghost use Rattle.std.specs.List.{list_any, prefix_len, suffix_len, join_by};
+ghost use Rattle.std.specs.Prelude.{◌≡◌, ◌==◌, ◌-◌, drop, length, map, option_map, IfOk};
+ghost use Rattle.std.specs.List.{list_any};
 ghost use Rattle.proxy_trust.specs.Lists as spec;
 
-use crate::cuts::cut;
+use head_grammar::trim;
 use outside::Bytes;
 use std::alloc::{AllocError, Global};
-
-fn is_white_space(byte: u8) -> bool
-    ensures { result ≡ spec.is_white_space byte }
-{
-    matches!(byte, b' ' | b'\t')
-}
-
-fn other_in_front(bytes: &[u8]) -> Option<usize>
-    ensures place { result ≡ position (λ b. not (spec.is_white_space b)) bytes.now }
-    ensures within { IfSome result (λ at. at < length bytes.now) }
-{
-    bytes.iter().position(|byte| !is_white_space(*byte))
-}
-
-fn other_behind(bytes: &[u8]) -> Option<usize>
-    ensures place { result ≡ position (λ b. not (spec.is_white_space b)) (reverse bytes.now) }
-    ensures within { IfSome result (λ at. at < length bytes.now) }
-{
-    bytes.iter().rev().position(|byte| !is_white_space(*byte))
-}
-
-fn space_in_front(bytes: &[u8]) -> usize
-    ensures count { result ≡ prefix_len spec.is_white_space bytes.now }
-    ensures within { result ≤ length bytes.now }
-{
-    other_in_front(bytes).unwrap_or(bytes.len())
-}
-
-fn space_behind(bytes: &[u8]) -> usize
-    ensures count { result ≡ suffix_len spec.is_white_space bytes.now }
-    ensures within { result ≤ length bytes.now }
-{
-    other_behind(bytes).unwrap_or(bytes.len())
-}
-
-fn trim(bytes: &[u8]) -> &[u8]
-    ensures { result.now ≡ spec.trimmed bytes.now }
-{
-    let rest = &bytes[space_in_front(bytes)..];
-    &rest[..rest.len() - space_behind(rest)]
-}
 
 fn read_parts<'a>(alloc: Global, value: &'a [u8]) -> Result<Vec<&'a [u8]>, AllocError>
     ensures { IfOk result (λ parts. map (λ part. part.now) parts.items ≡ spec.parts value.now) }
 {
     let mut parts = Vec::new(alloc);
-    let mut rest = value;
-    while let Some((part, behind)) = cut(rest, b',') {
+    for part in value.split(|byte| *byte == b',') {
         parts.push(trim(part))?;
-        rest = behind;
     }
-    parts.push(trim(rest))?;
     Ok(parts)
 }
 
@@ -84,7 +40,7 @@ fn join(alloc: Global, parts: &[&[u8]]) -> Result<Bytes, AllocError>
 
 /// A list as it is kept, and its first part.
 #[derive(Drop)]
-pub struct Route<'a> {
+pub struct LastParts<'a> {
     pub kept: Bytes,
     pub chosen: &'a [u8],
 }
@@ -95,14 +51,14 @@ fn last_of<'p, 'a>(parts: &'p [&'a [u8]], count: u32) -> &'p [&'a [u8]]
     &parts[parts.len().saturating_sub(count as usize)..]
 }
 
-fn read_route<'a>(alloc: Global, parts: &[&'a [u8]]) -> Result<Option<Route<'a>>, AllocError>
-    ensures { IfOk result (λ route. option_map spec.seen route
+fn read_last<'a>(alloc: Global, parts: &[&'a [u8]]) -> Result<Option<LastParts<'a>>, AllocError>
+    ensures { IfOk result (λ last. option_map spec.seen last
         ≡ spec.listed_of (map (λ part. part.now) parts.now)) }
 {
     let Some(chosen) = parts.first() else {
         return Ok(None);
     };
-    Ok(Some(Route {
+    Ok(Some(LastParts {
         kept: join(alloc, parts)?,
         chosen,
     }))
@@ -113,12 +69,12 @@ pub fn read_list<'a>(
     alloc: Global,
     value: &'a [u8],
     count: u32,
-) -> Result<Option<Route<'a>>, AllocError>
+) -> Result<Option<LastParts<'a>>, AllocError>
     ensures { IfOk result (λ read. option_map spec.seen read ≡ spec.listed count value.now) }
 {
     let parts = read_parts(alloc, value)?;
     if have_empty(&parts) {
         return Ok(None);
     }
-    read_route(alloc, last_of(&parts, count))
+    read_last(alloc, last_of(&parts, count))
 }

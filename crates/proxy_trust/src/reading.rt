@@ -1,8 +1,7 @@
 //! What each proxy header says.
-ghost use Rattle.std.specs.Prelude.{◌≡◌, IfOk};
+ghost use Rattle.std.specs.Prelude.{◌≡◌, option_copied};
 ghost use Rattle.outside.specs.declared.types.Kind.TheVariants.{For, Host, Proto, Port, By};
 ghost use Rattle.proxy_trust.specs.Answers.{Answers};
-ghost use Rattle.proxy_trust.specs.Headers.{shown};
 ghost use Rattle.proxy_trust.specs.Rules.{IsSound};
 ghost use Rattle.proxy_trust.specs.Trust as spec;
 
@@ -12,11 +11,11 @@ use crate::lists::read_list;
 use crate::{ProxyFault, ProxyRules};
 use head_grammar::Field;
 use outside::{Bytes, Kind, Peer};
-use std::alloc::{AllocError, Global};
+use std::alloc::Global;
 
 /// What `X-Forwarded-For` says: the list as it is kept, and where the request came from.
 #[derive(Debug, Drop)]
-pub struct Origin {
+pub struct ClientList {
     pub kept: Bytes,
     pub from: Endpoint,
 }
@@ -24,37 +23,41 @@ pub struct Origin {
 /// What `X-Forwarded-Host` says: the list as it is kept, the value of the Host field that the
 /// first proxy got, and its parts.
 #[derive(Debug, Drop)]
-pub struct Asked {
+pub struct HostList {
     pub kept: Bytes,
     pub field: Bytes,
     pub host: Endpoint,
 }
 
-/// What `X-Forwarded-Proto` says.
 #[derive(Clone, Copy, Debug, PartialEq, Eq)]
 pub enum Scheme {
     Http,
     Https,
 }
 
-/// What all proxy headers say that are used.
+/// What `X-Forwarded-Proto` says: the scheme as it was sent, and which one it is.
 #[derive(Debug, Drop)]
-pub struct Told {
-    pub origin: Option<Origin>,
-    pub asked: Option<Asked>,
-    pub scheme: Option<Scheme>,
-    /// The scheme as it was sent.
-    pub proto: Option<Bytes>,
+pub struct SentScheme {
+    pub kept: Bytes,
+    pub scheme: Scheme,
+}
+
+/// What all proxy headers say that are believed.
+#[derive(Debug, Drop)]
+pub struct ProxyHeaders {
+    pub clients: Option<ClientList>,
+    pub hosts: Option<HostList>,
+    pub proto: Option<SentScheme>,
     pub port: Option<Bytes>,
     pub by: Option<Bytes>,
 }
 
-fn read_origin(
+fn read_clients(
     alloc: Global,
     value: Option<&[u8]>,
     count: u32,
-) -> Result<Option<Origin>, ProxyFault>
-    ensures { Answers result (spec.read For (spec.origin count) (shown value.entry)) }
+) -> Result<Option<ClientList>, ProxyFault>
+    ensures { Answers result (spec.read For (spec.clients count) (option_copied value.entry)) }
 {
     let Some(value) = value else {
         return Ok(None);
@@ -65,14 +68,18 @@ fn read_origin(
     let Some(from) = read_endpoint(alloc, list.chosen)? else {
         return Err(ProxyFault::Malformed(Kind::For));
     };
-    Ok(Some(Origin {
+    Ok(Some(ClientList {
         kept: list.kept,
         from,
     }))
 }
 
-fn read_asked(alloc: Global, value: Option<&[u8]>, count: u32) -> Result<Option<Asked>, ProxyFault>
-    ensures { Answers result (spec.read Host (spec.asked count) (shown value.entry)) }
+fn read_hosts(
+    alloc: Global,
+    value: Option<&[u8]>,
+    count: u32,
+) -> Result<Option<HostList>, ProxyFault>
+    ensures { Answers result (spec.read Host (spec.hosts count) (option_copied value.entry)) }
 {
     let Some(value) = value else {
         return Ok(None);
@@ -83,30 +90,42 @@ fn read_asked(alloc: Global, value: Option<&[u8]>, count: u32) -> Result<Option<
     let Some(host) = read_endpoint(alloc, list.chosen)? else {
         return Err(ProxyFault::Malformed(Kind::Host));
     };
-    Ok(Some(Asked {
+    Ok(Some(HostList {
         field: Bytes::from_slice(alloc, list.chosen)?,
         kept: list.kept,
         host,
     }))
 }
 
-fn read_scheme(value: Option<&[u8]>) -> Result<Option<Scheme>, ProxyFault>
-    ensures { Answers result (spec.read Proto spec.scheme (shown value.entry)) }
+fn scheme_of(value: &[u8]) -> Option<Scheme>
+    ensures { result ≡ spec.scheme value.now }
+{
+    if value.eq_ignore_ascii_case(b"http") {
+        Some(Scheme::Http)
+    } else if value.eq_ignore_ascii_case(b"https") {
+        Some(Scheme::Https)
+    } else {
+        None
+    }
+}
+
+fn read_proto(alloc: Global, value: Option<&[u8]>) -> Result<Option<SentScheme>, ProxyFault>
+    ensures { Answers result (spec.read Proto spec.proto (option_copied value.entry)) }
 {
     let Some(value) = value else {
         return Ok(None);
     };
-    if value.eq_ignore_ascii_case(b"http") {
-        Ok(Some(Scheme::Http))
-    } else if value.eq_ignore_ascii_case(b"https") {
-        Ok(Some(Scheme::Https))
-    } else {
-        Err(ProxyFault::Malformed(Kind::Proto))
-    }
+    let Some(scheme) = scheme_of(value) else {
+        return Err(ProxyFault::Malformed(Kind::Proto));
+    };
+    Ok(Some(SentScheme {
+        kept: Bytes::from_slice(alloc, value)?,
+        scheme,
+    }))
 }
 
 fn read_port(alloc: Global, value: Option<&[u8]>) -> Result<Option<Bytes>, ProxyFault>
-    ensures { Answers result (spec.read Port spec.port (shown value.entry)) }
+    ensures { Answers result (spec.read Port spec.port (option_copied value.entry)) }
 {
     let Some(value) = value else {
         return Ok(None);
@@ -118,7 +137,7 @@ fn read_port(alloc: Global, value: Option<&[u8]>) -> Result<Option<Bytes>, Proxy
 }
 
 fn read_by(alloc: Global, value: Option<&[u8]>, count: u32) -> Result<Option<Bytes>, ProxyFault>
-    ensures { Answers result (spec.read By (spec.by count) (shown value.entry)) }
+    ensures { Answers result (spec.read By (spec.by count) (option_copied value.entry)) }
 {
     let Some(value) = value else {
         return Ok(None);
@@ -129,38 +148,22 @@ fn read_by(alloc: Global, value: Option<&[u8]>, count: u32) -> Result<Option<Byt
     }
 }
 
-fn copied(alloc: Global, value: Option<&[u8]>) -> Result<Option<Bytes>, AllocError>
-    ensures { IfOk result (λ copy. copy ≡ shown value.entry) }
-{
-    match value {
-        None => Ok(None),
-        Some(value) => Ok(Some(Bytes::from_slice(alloc, value)?)),
-    }
-}
-
-/// What all proxy headers say that are used, or the first malformed one.
-pub fn read_told(
+/// What all proxy headers say that are believed, or the first malformed one.
+pub fn read_all(
     alloc: Global,
     rules: &ProxyRules,
     peer: &Peer,
     fields: &[Field],
-) -> Result<Told, ProxyFault>
+) -> Result<ProxyHeaders, ProxyFault>
     requires { IsSound rules.now }
-    ensures { Answers result (spec.told rules.now peer.now fields.now) }
+    ensures { Answers result (spec.read_all rules.now peer.now fields.now) }
 {
     let count = rules.count;
-    let origin = read_origin(alloc, used(rules, peer, fields, Kind::For), count)?;
-    let asked = read_asked(alloc, used(rules, peer, fields, Kind::Host), count)?;
-    let proto = used(rules, peer, fields, Kind::Proto);
-    let scheme = read_scheme(proto)?;
-    let port = read_port(alloc, used(rules, peer, fields, Kind::Port))?;
-    let by = read_by(alloc, used(rules, peer, fields, Kind::By), count)?;
-    Ok(Told {
-        origin,
-        asked,
-        scheme,
-        proto: copied(alloc, proto)?,
-        port,
-        by,
+    Ok(ProxyHeaders {
+        clients: read_clients(alloc, used(rules, peer, fields, Kind::For), count)?,
+        hosts: read_hosts(alloc, used(rules, peer, fields, Kind::Host), count)?,
+        proto: read_proto(alloc, used(rules, peer, fields, Kind::Proto))?,
+        port: read_port(alloc, used(rules, peer, fields, Kind::Port))?,
+        by: read_by(alloc, used(rules, peer, fields, Kind::By), count)?,
     })
 }

@@ -40,6 +40,13 @@ pub const KEEPING: Rules = Rules {
     clear: false,
 };
 
+pub const KEEPING_ALL: Rules = Rules {
+    proxy: "*",
+    count: 1,
+    kinds: ALL,
+    clear: false,
+};
+
 pub const NOBODY: Rules = Rules {
     proxy: "",
     count: 1,

@@ -1,5 +1,5 @@
 //! What proxies tell, row by row.
-use crate::shown::{EVERY, KEEPING, LOCAL, NOBODY, counting, holds};
+use crate::shown::{EVERY, KEEPING, KEEPING_ALL, LOCAL, NOBODY, counting, holds};
 use std::rt::HostRuntime;
 
 #[test]
@@ -13,6 +13,9 @@ fn proxies_that_are_believed_tell_of_requests(rt: HostRuntime) {
         ("~for=2001:db8::1", "2001:db8::1 - - - - |~for=2001:db8::1"),
         ("~for=a_b-C.9:1", "a_b-C.9 1 - - - |~for=a_b-C.9:1"),
         ("~for=::", ":: - - - - |~for=::"),
+        ("~for=::1:80", "::1:80 - - - - |~for=::1:80"),
+        ("~for=a:00080", "a 00080 - - - |~for=a:00080"),
+        ("~for=a:0, b", "b - - - - |~for=b"),
         ("~for=a,b,c", "c - - - - |~for=c"),
         ("~for=?!, a", "a - - - - |~for=a"),
         ("~port=1", "- - - 1 - |~port=1"),
@@ -27,6 +30,15 @@ fn proxies_that_are_believed_tell_of_requests(rt: HostRuntime) {
         ),
         ("~host=y, x:81|a=1", "- - x 81 - |~host=x:81|a=1|host=x:81"),
         ("~host=[::1]:8", "- - ::1 8 - |~host=[::1]:8|host=[::1]:8"),
+        ("~host=[::1]", "- - ::1 - - |~host=[::1]|host=[::1]"),
+        (
+            "~host=2001:db8::1",
+            "- - 2001:db8::1 - - |~host=2001:db8::1|host=2001:db8::1",
+        ),
+        (
+            "~host=a|~by=x|~host=b|~by=y",
+            "- - a - - |~host=a|~by=x|host=a",
+        ),
         ("host=b|~host=a|host=c", "- - a - - |host=a|~host=a|host=c"),
         (
             "~host=a:1|~port=2|~proto=http",
@@ -64,6 +76,11 @@ fn proxies_that_are_believed_tell_of_requests(rt: HostRuntime) {
         ),
         ("~for=\t a ", "a - - - - |~for=a"),
         ("~for=a, ?!", "a - - - - |~for=a, ?!"),
+        ("~for=a, b:0", "a - - - - |~for=a, b:0"),
+        (
+            "~host=a, b:81, c|~by=x, y, z",
+            "- - b 81 - |~host=b:81, c|~by=y, z|host=b:81",
+        ),
     ] {
         assert!(rt;
             holds(rt.alloc(), counting(2), "1.1.1.1", fields, want),
@@ -96,6 +113,9 @@ fn malformed_headers_are_named(rt: HostRuntime) {
         "~for=a, \t,b",
         "~for= ",
         "~for=a, ?!",
+        "~for=a, b:0",
+        "~for=[::1]:0",
+        "~for=[::1]:65536",
         "~port=0",
         "~port=00000",
         "~port=65536",
@@ -182,6 +202,18 @@ fn what_is_not_believed_is_cleared(rt: HostRuntime) {
             "127.0.0.1",
             "~for=a ,b",
             "a - - - - |~for=a, b",
+        ),
+        (
+            counting(9),
+            "127.0.0.1",
+            "~host=a:1, b|~by=x ,y",
+            "- - a 1 - |~host=a:1, b|~by=x, y|host=a:1",
+        ),
+        (
+            KEEPING_ALL,
+            "127.0.0.1",
+            "~host=a|~by=x|~host=b|~by=y",
+            "- - a - - |~host=a|~by=x|~host=b|~by=y|host=a",
         ),
     ] {
         assert!(rt; holds(rt.alloc(), rules, addr, fields, want), "{fields}");

@@ -5,23 +5,23 @@ ghost use Rattle.proxy_trust.specs.Rules.{IsSound};
 ghost use Rattle.proxy_trust.specs.Trust as spec;
 
 use crate::endpoint::Endpoint;
-use crate::keeping::keep_fields;
-use crate::reading::{Asked, Origin, Scheme, Told, read_told};
-use crate::values::Values;
+use crate::headers::name_of;
+use crate::keeping::{HOST, add_new, keep_fields};
+use crate::reading::{ClientList, HostList, ProxyHeaders, Scheme, SentScheme, read_all};
 use crate::{ProxyFault, ProxyRules, Trusted};
 use head_grammar::Field;
-use outside::{Bytes, Peer};
+use outside::{Bytes, Kind, Peer};
 use std::alloc::{AllocError, Global};
 
 // The list as it is kept, the address and the port.
-fn origin_parts(origin: Option<Origin>) -> (Option<Bytes>, Option<Bytes>, Option<Bytes>)
-    ensures kept { result.0 ≡ option_map (λ origin. origin.kept) origin }
-    ensures address { result.1 ≡ option_map (λ origin. origin.from.address) origin }
-    ensures port { result.2 ≡ option_and_then (λ origin. origin.from.port) origin }
+fn client_parts(clients: Option<ClientList>) -> (Option<Bytes>, Option<Bytes>, Option<Bytes>)
+    ensures kept { result.0 ≡ option_map (λ clients. clients.kept) clients }
+    ensures address { result.1 ≡ option_map (λ clients. clients.from.address) clients }
+    ensures port { result.2 ≡ option_and_then (λ clients. clients.from.port) clients }
 {
-    match origin {
+    match clients {
         None => (None, None, None),
-        Some(Origin { kept, from }) => {
+        Some(ClientList { kept, from }) => {
             let Endpoint { address, port } = from;
             (Some(kept), Some(address), port)
         }
@@ -29,18 +29,31 @@ fn origin_parts(origin: Option<Origin>) -> (Option<Bytes>, Option<Bytes>, Option
 }
 
 // The list as it is kept, the Host field, the address and the port.
-fn asked_parts(asked: Option<Asked>) -> (Option<Bytes>, Option<Bytes>, Option<Bytes>, Option<Bytes>)
-    ensures kept { result.0 ≡ option_map (λ asked. asked.kept) asked }
-    ensures field { result.1 ≡ option_map (λ asked. asked.field) asked }
-    ensures address { result.2 ≡ option_map (λ asked. asked.host.address) asked }
-    ensures port { result.3 ≡ option_and_then (λ asked. asked.host.port) asked }
+fn host_parts(
+    hosts: Option<HostList>,
+) -> (Option<Bytes>, Option<Bytes>, Option<Bytes>, Option<Bytes>)
+    ensures kept { result.0 ≡ option_map (λ hosts. hosts.kept) hosts }
+    ensures field { result.1 ≡ option_map (λ hosts. hosts.field) hosts }
+    ensures address { result.2 ≡ option_map (λ hosts. hosts.host.address) hosts }
+    ensures port { result.3 ≡ option_and_then (λ hosts. hosts.host.port) hosts }
 {
-    match asked {
+    match hosts {
         None => (None, None, None, None),
-        Some(Asked { kept, field, host }) => {
+        Some(HostList { kept, field, host }) => {
             let Endpoint { address, port } = host;
             (Some(kept), Some(field), Some(address), port)
         }
+    }
+}
+
+// The scheme as it was sent, and which one it is.
+fn proto_parts(proto: Option<SentScheme>) -> (Option<Bytes>, Option<Scheme>)
+    ensures kept { result.0 ≡ option_map (λ proto. proto.kept) proto }
+    ensures scheme { result.1 ≡ option_map (λ proto. proto.scheme) proto }
+{
+    match proto {
+        None => (None, None),
+        Some(SentScheme { kept, scheme }) => (Some(kept), Some(scheme)),
     }
 }
 
@@ -90,32 +103,32 @@ fn server_port(
     }
 }
 
-fn take_told(
+fn take_headers(
     alloc: Global,
     clear: bool,
     fields: &[Field],
-    told: Told,
+    headers: ProxyHeaders,
 ) -> Result<Trusted, AllocError>
-    ensures { IfOk result (λ trusted. trusted ≡ spec.taken clear fields.now told) }
+    ensures { IfOk result (λ trusted. trusted ≡ spec.taken clear fields.now headers) }
 {
-    let (forwarded_for, addr, port) = origin_parts(told.origin);
-    let (forwarded_host, host, server_name, host_port) = asked_parts(told.asked);
-    let server_port = server_port(alloc, &told.port, host_port, told.scheme)?;
-    let values = Values {
-        forwarded_for,
-        forwarded_host,
-        forwarded_proto: told.proto,
-        forwarded_port: told.port,
-        forwarded_by: told.by,
-        host,
-    };
+    let (clients, addr, port) = client_parts(headers.clients);
+    let (hosts, host, server_name, host_port) = host_parts(headers.hosts);
+    let (proto, scheme) = proto_parts(headers.proto);
+    let server_port = server_port(alloc, &headers.port, host_port, scheme)?;
+    let mut news = Vec::new(alloc);
+    add_new(alloc, &mut news, name_of(Kind::For), clients)?;
+    add_new(alloc, &mut news, name_of(Kind::Host), hosts)?;
+    add_new(alloc, &mut news, name_of(Kind::Proto), proto)?;
+    add_new(alloc, &mut news, name_of(Kind::Port), headers.port)?;
+    add_new(alloc, &mut news, name_of(Kind::By), headers.by)?;
+    add_new(alloc, &mut news, HOST, host)?;
     Ok(Trusted {
-        fields: keep_fields(alloc, fields, values, clear)?,
+        fields: keep_fields(alloc, fields, news, clear)?,
         addr,
         port,
         server_name,
         server_port,
-        scheme: scheme_name(alloc, told.scheme)?,
+        scheme: scheme_name(alloc, scheme)?,
     })
 }
 
@@ -131,6 +144,6 @@ pub fn trust(
     requires sound { IsSound rules.now }
     ensures { Answers result (spec.trusted rules.now peer.now fields.now) }
 {
-    let told = read_told(alloc, rules, peer, fields)?;
-    Ok(take_told(alloc, rules.clear, fields, told)?)
+    let headers = read_all(alloc, rules, peer, fields)?;
+    Ok(take_headers(alloc, rules.clear, fields, headers)?)
 }
