@@ -2,11 +2,19 @@
 #![tactic(auto)]
 
 mod app;
-mod of_head;
+mod of_fields;
+mod of_request;
+mod pairs;
+#[cfg(test)]
+mod shown;
+mod site;
 mod step;
+#[cfg(test)]
+mod tests;
 mod variables;
 
 pub use app::{App, AppRun};
-pub use of_head::environ;
+pub use of_request::environ;
+pub use site::Site;
 pub use step::{RunFault, Step};
 pub use variables::Environ;

@@ -8,7 +8,7 @@ use std::marker::Model;
 /// Names and values. Where a name stands twice, its first value counts.
 #[derive(Debug, Drop)]
 pub struct Environ {
-    pairs: Vec<(Bytes, Bytes)>,
+    pub(crate) pairs: Vec<(Bytes, Bytes)>,
 }
 
 impl Model for Environ {
