@@ -91,10 +91,18 @@ bad_length None field rest bad named =
     ∙ ap (λ value. declares None value (λ next. read_on next rest)) bad
 
 -- the field at a place is the first of those from there on
-pub from_here : (declared : Option ℕ) (fields : List Field) (i : ℕ) (field : Field) → i < length fields →
+from_here : (declared : Option ℕ) (fields : List Field) (i : ℕ) (field : Field) → i < length fields →
     field ≡ get_or fields i field → read_on declared (drop i fields) ≡ read_on declared (field ∷ drop (suc i) fields)
 from_here declared fields i field l e =
     ap (read_on declared) (drop-cons fields i field l ∙ ap (λ f. f ∷ drop (suc i) fields) (sym e))
+
+-- where a field makes the length nothing, so do all fields
+pub refused_here : (declared : Option ℕ) (fields : List Field) (i : ℕ) (field : Field) → i < length fields →
+    field ≡ get_or fields i field → read_on declared (drop i fields) ≡ read_on None fields →
+    read_on declared (field ∷ drop (suc i) fields) ≡ None →
+    None ≡ (if are_lengths (lengths fields) then Some (declared_length fields) else None)
+refused_here declared fields i field l e so_far none =
+    sym none ∙ (sym (from_here declared fields i field l e) ∙ (so_far ∙ read_whole fields))
 
 -- no field is left
 pub none_left : (declared : Option ℕ) (fields : List Field) (i : ℕ) → length fields ≤ i →

@@ -1,13 +1,12 @@
 pub mod Appending
+mod Chains
 mod ErrorTexts
 mod Failing
 mod Going
 mod HeadLines
 mod HexDigits
 mod Lengths
-mod Numbers
 mod Openings
-mod Passing
 mod Pieces
 mod Recasing
 mod SortedLines

@@ -1,4 +1,5 @@
 pub mod Answer
+pub mod Chains
 pub mod Errors
 pub mod Fields
 pub mod HopByHop

@@ -10,10 +10,10 @@ ghost use Rattle.task_core.specs.Starts.{is_named};
 
 use crate::layout::Layout;
 use crate::lines::{push_field, push_status_line};
-use crate::names::{recase, trim};
+use crate::names::recase;
 use crate::request::Request;
 use crate::starts::{Given, is_named};
-use head_grammar::{Field, Version};
+use head_grammar::{Field, Version, trim};
 use imf_fixdate::date_text;
 use itoa::Buffer;
 use outside::{Bytes, Items};

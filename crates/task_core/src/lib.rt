@@ -3,23 +3,27 @@
 #![tactic(auto)]
 
 mod advance;
+#[cfg(test)]
+mod error_tests;
 mod errors;
 mod heads;
 mod hex;
+mod laws;
 mod layout;
 mod lines;
 mod names;
 mod opening;
 mod request;
+#[cfg(test)]
+mod script_tests;
 mod sending;
 mod starts;
 mod state;
 mod task;
-#[cfg(test)]
-mod tests;
 mod wrote;
 
 pub use errors::{error_answer, proxy_answer};
+pub use laws::{continue_has_no_fields, scripts_are_answered};
 pub use task::Task;
 pub use wrote::Wrote;
 

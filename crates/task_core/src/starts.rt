@@ -1,19 +1,15 @@
 //! What a call of start_response gives (PEP 3333, 'The start_response() Callable').
-ghost use Rattle.std.specs.Prelude.{◌≡◌, ◌<◌, ◌*◌, ◌+◌, ◌^◌, ◌&&◌, Some, None, IsTrue, SomeIff, if◌then◌else◌, nat_lt};
-ghost use Rattle.std.specs.Char.{digit_value};
+ghost use Rattle.std.specs.Prelude.{◌≡◌, Some, None, IsTrue, if◌then◌else◌};
 ghost use Rattle.std.specs.List.{list_all};
 ghost use Rattle.std.specs.Str.Parse.{digits_value};
 ghost use Rattle.std.proofs.Props.{props};
 ghost use Rattle.byte_tables.specs.Cases.{rows_of};
-ghost use Rattle.byte_tables.specs.Classes as classes;
-ghost use Rattle.head_grammar.specs.FieldLines.{is_name};
-ghost use Rattle.head_grammar.specs.Framings.{is_number};
 ghost use Rattle.task_core.specs.Starts as spec;
 ghost use Rattle.task_core.specs.Starts.{is_valid, declared_length, lengths, are_lengths};
 ghost use Rattle.task_core.specs.HopByHop.{hop_rows};
 
-use byte_tables::{Case, cases, find_folded, is_digit, is_field, is_token};
-use head_grammar::Field;
+use byte_tables::{Case, cases, find_folded, is_digit};
+use head_grammar::{Field, are_field_bytes, is_name, is_number, number_of};
 use outside::{Bytes, Items};
 
 /// A status and fields that are valid, and the length that the fields declare.
@@ -24,12 +20,6 @@ pub struct Given {
     pub declared: Option<u64>,
     pub ghost valid: { IsTrue (is_valid status fields) },
     pub ghost known: { declared ≡ declared_length fields } by { Prim.hlevel props },
-}
-
-fn are_field_bytes(bytes: &[u8]) -> bool
-    ensures { result ≡ list_all classes.is_field bytes.now }
-{
-    bytes.iter().all(|byte| is_field(*byte))
 }
 
 // A code from 200 to 599, SP and a reason.
@@ -71,18 +61,6 @@ fn is_hop_by_hop(table: &[Case; 8], name: &[u8]) -> bool
     find_folded(table, name).is_some()
 }
 
-fn are_token_bytes(bytes: &[u8]) -> bool
-    ensures { result ≡ list_all classes.is_token bytes.now }
-{
-    bytes.iter().all(|byte| is_token(*byte))
-}
-
-fn is_name(name: &[u8]) -> bool
-    ensures { result ≡ is_name name.now }
-{
-    !name.is_empty() && are_token_bytes(name)
-}
-
 fn is_allowed(table: &[Case; 8], field: &Field) -> bool
     requires { rows_of table.now ≡ hop_rows }
     ensures { result ≡ spec.is_allowed field.now }
@@ -110,37 +88,11 @@ pub(crate) fn is_named(field: &Field, name: &[u8]) -> bool
     name.eq_ignore_ascii_case(field.name.as_slice())
 }
 
-fn are_digits(value: &[u8]) -> bool
-    ensures { result ≡ list_all classes.is_digit value.now }
-{
-    value.iter().all(|byte| is_digit(*byte))
-}
-
-// The number with one more digit, where a u64 can be it.
-fn with_digit(number: u64, digit: u8) -> Option<u64>
-    requires { IsTrue (classes.is_digit digit) }
-    ensures { SomeIff result (number * 10 + digit_value digit < 2 ^ 64) (number * 10 + digit_value digit) }
-{
-    number.checked_mul(10)?.checked_add(u64::from(digit - b'0'))
-}
-
-// The number, where a u64 can be it.
-fn number_of(digits: &[u8]) -> Option<u64>
-    requires { IsTrue (list_all classes.is_digit digits.now) }
-    ensures { SomeIff result (digits_value 10 digits.now < 2 ^ 64) (digits_value 10 digits.now) }
-{
-    let mut number = 0;
-    for digit in digits {
-        number = with_digit(number, *digit)?;
-    }
-    Some(number)
-}
-
 fn length_of(field: &Field) -> Option<u64>
     ensures { result ≡ (if spec.is_length field.now then Some (digits_value 10 field.now.value) else None) }
 {
     let value = field.value.as_slice();
-    if value.is_empty() || !are_digits(value) {
+    if !is_number(value) {
         return None;
     }
     number_of(value)

@@ -1,8 +1,0 @@
--- The number of the digits so far.
-use Rattle.std.proofs.Common.{◌≡◌, ◌<◌, take}
-use Rattle.std.specs.Prelude.{◌^◌}
-use Rattle.std.specs.Str.Parse.{digits_value}
-use Rattle.task_core.proofs.starts.number_of.Given as goal
-
-abbrev pub invariant-loop-digit : goal.invariant-loop-digit
-invariant-loop-digit l = record { value : l.number ≡ digits_value 10 (take l.digit-index l.digits); fits : l.number < 2 ^ 64 }
