@@ -1,47 +1,10 @@
--- A list that is cut at each element that passes a test.
-use Rattle.std.proofs.Common.{◌≡◌, ◌≤◌, ◌<◌, ◌+◌, ◌-◌, ◌∙◌, ℕ, Bool, true, false, List, [], ◌∷◌, length, take, drop, None, Some, refl, ap, sym, subst, cond, arith}
-use Rattle.std.specs.Prelude.{not, nat_lt, position}
-use Rattle.std.specs.List.{filter, slice_split, onto_first, position_or_len}
-use Rattle.std.proofs.lemmas.Bool.{lt-ltb, ltb-true, ltb-false}
-use Rattle.std.proofs.lemmas.List.{length-drop, take_all}
-use Rattle.std.proofs.lemmas.List.Splits.{slice_split_first}
+-- The parts of a text that is cut at each separator.
+use Rattle.std.proofs.Common.{◌≡◌, ◌<◌, ◌+◌, ◌-◌, ◌∙◌, ℕ, Bool, List, [], ◌∷◌, length, take, drop, None, Some, refl, ap, sym, cond, arith}
+use Rattle.std.specs.Prelude.{position}
+use Rattle.std.specs.List.{filter, slice_split}
+use Rattle.std.proofs.lemmas.Bool.{lt-ltb}
+use Rattle.byte_tables.proofs.Cuts.{cut_some, cut_none, rest_is}
 use Rattle.adjust.specs.Lists.{has_bytes, is_separator, onto_parts, parts}
-
-module _ (p : ℕ → Bool) where
-  by_test : (t : Bool) (n k : ℕ) → cond t (Some n) None ≡ Some k → (t ≡ true) × (n ≡ k)
-  by_test true n k e = let same : n ≡ k = cc in (refl, same)
-  by_test false n k e = cc
-
-  by_no_test : (t : Bool) (n : ℕ) → cond t (Some n) None ≡ None → t ≡ false
-  by_no_test true n e = cc
-  by_no_test false n e = refl
-
-  -- the first part ends at the place of the first such element
-  cut_some : (xs : List ℕ) (k : ℕ) → position p xs ≡ Some k → slice_split p xs ≡ take k xs ∷ slice_split p (drop (k + 1) xs)
-  cut_some xs k e =
-      let found = by_test (nat_lt (position_or_len p xs) (length xs)) (position_or_len p xs) k e in
-      subst (λ n. slice_split p xs ≡ take n xs ∷ slice_split p (drop (n + 1) xs)) found.1 (slice_split_first p xs 0 (ltb-true _ _ found.0))
-
-  whole_by : (t : Bool) (x : ℕ) (xs : List ℕ) (n : ℕ) → (length xs ≤ n → slice_split p xs ≡ xs ∷ []) → length (x ∷ xs) ≤ cond t 0 (1 + n) →
-      cond t ([] ∷ slice_split p xs) (onto_first x (slice_split p xs)) ≡ (x ∷ xs) ∷ []
-  whole_by true x xs n ih l = absurd (omega arith)
-  whole_by false x xs n ih l = ap (onto_first x) (ih (omega arith))
-
-  first_step : (t : Bool) (n : ℕ) → cond (not t) (1 + n) 0 ≡ cond t 0 (1 + n)
-  first_step true n = refl
-  first_step false n = refl
-
-  whole_if : (xs : List ℕ) → length xs ≤ position_or_len p xs → slice_split p xs ≡ xs ∷ []
-  whole_if [] l = refl
-  whole_if (x ∷ xs) l = whole_by (p x) x xs (position_or_len p xs) (whole_if xs) (subst (λ n. length (x ∷ xs) ≤ n) (first_step (p x) (position_or_len p xs)) l)
-
-  -- without such an element the list is one part
-  cut_none : (xs : List ℕ) → position p xs ≡ None → slice_split p xs ≡ xs ∷ []
-  cut_none xs e = whole_if xs (ltb-false (position_or_len p xs) (length xs) (by_no_test (nat_lt (position_or_len p xs) (length xs)) (position_or_len p xs) e))
-
--- the slice of a text from a place on
-rest_is : (text : List ℕ) (start : ℕ) → take (length text - start) (drop start text) ≡ drop start text
-rest_is text start = take_all (length text - start) (drop start text) (let l = length-drop start text in omega arith)
 
 pub parts-nil : (commas : Bool) → parts commas [] ≡ []
 unfolding parts

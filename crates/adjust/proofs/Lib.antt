@@ -1,3 +1,5 @@
+pub mod Choices
+pub mod Commands
 pub mod Cuts
 pub mod Entries
 pub mod Joined
@@ -5,4 +7,5 @@ pub mod KindLemmas
 pub mod ListEnds
 pub mod Numbers
 pub mod OneCommand
+pub mod Ranges
 pub mod Rows

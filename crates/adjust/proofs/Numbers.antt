@@ -1,30 +1,23 @@
 -- A number that a u64 has, or has not.
-use Rattle.std.proofs.Common.{◌≡◌, ◌∙◌, ◌<◌, ◌≤◌, ◌+◌, ◌*◌, ℕ, Bool, true, false, List, length, take, get_or, None, Some, refl, ap, sym, cond, arith}
+use Rattle.std.proofs.Common.{◌≡◌, ◌∙◌, ◌<◌, ◌≤◌, ◌+◌, ◌*◌, ℕ, List, length, take, get_or, None, Some, ap, sym, cond, arith}
 use Rattle.std.specs.Prelude.{nat_lt}
 use Rattle.std.specs.Char.{digit_value}
 use Rattle.std.specs.Str.Parse.{digits_value}
 use Rattle.std.proofs.lemmas.Bool.{le-ltb, lt-ltb, ltb-false, ltb-true}
 use Rattle.std.proofs.lemmas.Int.Digits.{digits_value_more}
 use Rattle.std.proofs.lemmas.Str.Parse.{digits_value-take-le}
+use Rattle.adjust.proofs.Choices.{none_by, some_by}
 use Rattle.adjust.specs.Values.{as_u64}
 
-some_by : (t : Bool) (n v : ℕ) → cond t (Some n) None ≡ Some v → v ≡ n
-some_by true n v e = cc
-some_by false n v e = cc
-
 pub has_u64 : (n v : ℕ) → as_u64 n ≡ Some v → v ≡ n
-has_u64 n v e = some_by (nat_lt n 18446744073709551616) n v e
-
-small_by : (t : Bool) (n v : ℕ) → nat_lt n 18446744073709551616 ≡ t → cond t (Some n) None ≡ Some v → v < 18446744073709551616
-small_by true n v is e = let same = some_by true n v e in let low = ltb-true n 18446744073709551616 is in omega arith
-small_by false n v is e = cc
+has_u64 n v e = sym (some_by (nat_lt n 18446744073709551616) n v e).1
 
 pub small_u64 : (n v : ℕ) → as_u64 n ≡ Some v → v < 18446744073709551616
-small_u64 n v e = small_by (nat_lt n 18446744073709551616) n v refl e
-
-none_by : (t : Bool) (n : ℕ) → cond t (Some n) None ≡ None → t ≡ false
-none_by true n e = cc
-none_by false n e = refl
+small_u64 n v e =
+    let has = some_by (nat_lt n 18446744073709551616) n v e in
+    let low = ltb-true n 18446744073709551616 has.0 in
+    let same = has.1 in
+    omega arith
 
 large : (n : ℕ) → as_u64 n ≡ None → 18446744073709551616 ≤ n
 large n e = ltb-false n 18446744073709551616 (none_by (nat_lt n 18446744073709551616) n e)

@@ -1,18 +1,14 @@
 -- The rows of the table by their names, and the first fault among them.
-use Rattle.std.proofs.Common.{◌≡◌, ◌∙◌, ◌<◌, ◌≤◌, ◌+◌, ℕ, suc, zero, Bool, true, false, List, [], ◌∷◌, ◌++◌, length, map, take, drop, get_or, None, Some, refl, ap, sym, cond, add-one, arith, codes}
-use Rattle.std.specs.Prelude.{Option, ◌&&◌, nat_le, not, find, position, slice_get, option_map, option_and_then, unwrap_or}
+use Rattle.std.proofs.Common.{◌≡◌, ◌∙◌, ◌<◌, ◌≤◌, ◌+◌, ℕ, suc, Bool, true, false, List, [], ◌∷◌, ◌++◌, length, map, take, drop, get_or, None, Some, refl, ap, sym, cond, add-one}
+use Rattle.std.specs.Prelude.{Option, not, find, position, slice_get, option_map, unwrap_or}
 use Rattle.std.specs.List.{cons_option, filter_map, prefix_len}
-use Rattle.std.specs.Option.{option_map_or, option_or}
+use Rattle.std.specs.Option.{option_map_or}
 use Rattle.std.proofs.Math.Seq.{drop-cons, take-suc}
-use Rattle.std.proofs.lemmas.Bool.{leb-true}
 use Rattle.std.proofs.lemmas.List.{length-map, take-append-drop, take_all}
 use Rattle.std.proofs.lemmas.List.Elements.{filter_map-append}
 use Rattle.clap.specs.Words.{Row as Found}
-use Rattle.adjust.specs.Command.{default_of, first_fault, first_value_fault, has_name, number_at, place_of, range_fault, row_fault, value, value_fault}
+use Rattle.adjust.specs.Command.{default_of, first_value_fault, has_name, place_of, row_fault}
 use Rattle.adjust.specs.Options.{Row, option_rows, row_of}
-use Rattle.adjust.specs.Values.{number}
-use Rattle.adjust.specs.declared.options.Form.TheVariants.{Number}
-use Rattle.adjust.specs.declared.options.Field.TheVariants.{NotShown}
 use Rattle.adjust.specs.declared.options.OptionRow.{OptionRow}
 use Rattle.adjust.specs.declared.types.UsageFault.{UsageFault}
 
@@ -79,57 +75,3 @@ pub no_fault : (words : List Found) (rows : List OptionRow) (i : ℕ) → map ro
     faults_in words (take i rows) ≡ [] → None ≡ first_value_fault words
 no_fault words rows i known past none =
     sym (ap (λ xs. slice_get xs 0) (ap (faults_in words) (sym (take_all i rows past)) ∙ none)) ∙ all_faults words rows known
-
--- ---- a rehearsal's number of connections
-
-none_left : {X : Type 0} (a b : Option X) → option_or a b ≡ None → a ≡ None
-none_left None b e = refl
-none_left (Some x) b e = cc
-
-empty_by : {X : Type 0} (xs : List X) → slice_get xs 0 ≡ None → xs ≡ []
-empty_by [] e = refl
-empty_by (x ∷ xs) e = cc
-
-cons_empty : {X : Type 0} (r : Option X) (xs : List X) → cons_option r xs ≡ [] → (r ≡ None) × (xs ≡ [])
-cons_empty None xs e = (refl, e)
-cons_empty (Some x) xs e = cc
-
-each_none : {X Y : Type 0} (h : X → Option Y) (xs : List X) (i : ℕ) (d : X) → i < length xs → filter_map h xs ≡ [] → h (get_or xs i d) ≡ None
-each_none h [] i d within e = absurd (omega arith)
-each_none h (x ∷ xs) zero d within e = (cons_empty (h x) (filter_map h xs) e).0
-each_none h (x ∷ xs) (suc i) d within e = each_none h xs i d (omega arith) (cons_empty (h x) (filter_map h xs) e).1
-
-rehearse_row : (words : List Found) → first_value_fault words ≡ None → option_and_then (value_fault (place_of (codes "rehearse")) (Number 1 20000)) (value words (codes "rehearse")) ≡ None
-unfolding first_value_fault option_rows
-rehearse_row words e = each_none (row_fault words) option_rows 25 (record { name = []; form = Number 0 0; field = NotShown; default = [] }) (omega arith) (empty_by _ e)
-
-below : (t : Bool) (n low high : ℕ) (f : UsageFault) → (nat_le low n && nat_le n high) ≡ t → cond t None (Some f) ≡ None → n ≤ high
-below true n low high f is e = leb-true n high (both (nat_le low n) (nat_le n high) is)
-  where
-    both : (a b : Bool) → (a && b) ≡ true → b ≡ true
-    both true b h = h
-    both false b h = cc
-below false n low high f is e = cc
-
-in_range : (place low high : ℕ) (r : Option ℕ) → range_fault place low high r ≡ None → unwrap_or r 0 ≤ high
-in_range place low high None e = cc
-in_range place low high (Some n) e = below (nat_le low n && nat_le n high) n low high _ refl e
-
-small_value : (place low high : ℕ) (default : List ℕ) (v : Option (List ℕ)) → unwrap_or (number default) 0 ≤ high →
-    option_and_then (value_fault place (Number low high)) v ≡ None → unwrap_or (number (unwrap_or v default)) 0 ≤ high
-small_value place low high default None small e = small
-small_value place low high default (Some []) small e = cc
-small_value place low high default (Some (b ∷ bs)) small e = in_range place low high (number (b ∷ bs)) e
-
-no_default : unwrap_or (number (default_of (codes "rehearse"))) 0 ≡ 0
-unfolding number option_rows
-no_default = refl
-
-first_none : (words : List Found) → first_fault words ≡ None → first_value_fault words ≡ None
-unfolding first_fault
-first_none words e = none_left _ _ (none_left _ _ (none_left _ _ (none_left _ _ e)))
-
-pub few_connections : (words : List Found) → first_fault words ≡ None → number_at words (codes "rehearse") ≤ 20000
-few_connections words e =
-    small_value (place_of (codes "rehearse")) 1 20000 (default_of (codes "rehearse")) (value words (codes "rehearse"))
-    (let zero_is = no_default in omega arith) (rehearse_row words (first_none words e))

@@ -2,5 +2,6 @@ pub mod Command
 pub mod CommandLine
 pub mod Lists
 pub mod Options
+pub mod Ranges
 pub mod Texts
 pub mod Values

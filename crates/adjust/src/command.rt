@@ -1,7 +1,8 @@
 //! What a command line asks for.
-ghost use Rattle.std.specs.Prelude.{◌≡◌, IfOk, None, codes};
+ghost use Rattle.std.specs.Prelude.{◌≡◌, ◌≢◌, IfOk, None, codes, true};
 ghost use Rattle.adjust.specs.Command as spec;
 ghost use Rattle.adjust.specs.CommandLine.{words_of};
+ghost use Rattle.adjust.specs.Ranges.{KeepsRanges};
 
 use crate::addresses::read_listen;
 use crate::definition::find_given;
@@ -161,7 +162,8 @@ fn served(alloc: Global, given: &Given<'_>) -> Result<Result<Command, UsageFault
 
 // No rehearsal has more connections than its option's range lets it.
 fn connections(given: &Given<'_>) -> u32
-    requires { spec.first_fault given.now ≡ None }
+    requires faultless { spec.first_fault given.now ≡ None }
+    requires rehearses { spec.is_given given.now (codes "rehearse") ≡ true }
     ensures { result ≡ spec.number_at given.now (codes "rehearse") }
 {
     given.number("rehearse") as u32
@@ -207,7 +209,9 @@ fn command(alloc: Global, words: &[String]) -> Result<Result<Command, UsageFault
 /// What the words behind the program's name ask for. Where memory is refused, `NoMemory` may
 /// stand for any other answer.
 pub fn read(alloc: Global, words: &[String]) -> Result<Command, UsageFault>
-    ensures { spec.IsOrLacksMemory (spec.command (words_of words.now)) result }
+    ensures command { spec.IsOrLacksMemory (spec.command (words_of words.now)) result }
+    ensures memory { spec.command (words_of words.now) ≢ Err UsageFault.NoMemory }
+    ensures ranges { IfOk result KeepsRanges }
 {
     match command(alloc, words) {
         Ok(command) => command,

@@ -22,9 +22,7 @@ fn fits(form: Form, value: &[u8]) -> bool
         Form::Path => is_visible_text(value),
         Form::Name => is_visible_text(value),
         Form::FieldText => is_field_text(value),
-        Form::Number { .. } => true,
-        Form::Addresses => true,
-        Form::Flag => true,
+        _ => true,
     }
 }
 
@@ -62,14 +60,7 @@ fn form_fault(place: usize, form: Form, value: &[u8]) -> Option<UsageFault>
             Some(entry) => Some(UsageFault::BadListen(entry)),
             None => None,
         },
-        Form::Host => fit_fault(place, form, value),
-        Form::Proxy => fit_fault(place, form, value),
-        Form::Kinds => fit_fault(place, form, value),
-        Form::Scheme => fit_fault(place, form, value),
-        Form::Path => fit_fault(place, form, value),
-        Form::Name => fit_fault(place, form, value),
-        Form::FieldText => fit_fault(place, form, value),
-        Form::Flag => fit_fault(place, form, value),
+        _ => fit_fault(place, form, value),
     }
 }
 

@@ -8,16 +8,16 @@ mod definition;
 mod faults;
 mod given;
 mod kinds;
+mod laws;
 mod options;
 mod parts;
 mod shown;
-#[cfg(test)]
-mod tests;
 mod texts;
 mod types;
 mod values;
 
 pub use command::read;
-pub use shown::check_text;
+pub use laws::ranges_are_kept;
+pub use shown::{check_text, push_listen};
 pub use texts::{fault_text, help_text};
 pub use types::{Adjustments, AppName, Command, UsageFault};

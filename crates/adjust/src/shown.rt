@@ -27,7 +27,9 @@ fn push_host(text: &mut Vec<u8>, host: &[u8]) -> Result<(), AllocError>
     text.extend_from_slice(b"]")
 }
 
-fn push_listen(text: &mut Vec<u8>, listen: &Listen) -> Result<(), AllocError>
+/// Writes an address at the end, as `host:port`: an address of version 6 stands in brackets. Where
+/// memory is refused, a part of it may stand there.
+pub fn push_listen(text: &mut Vec<u8>, listen: &Listen) -> Result<(), AllocError>
     ensures { OnOk result (text.new.items ≡ text.old.items ++ spec.listen_text listen.now) }
 {
     push_host(text, listen.host.as_slice())?;

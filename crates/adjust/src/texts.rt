@@ -98,15 +98,7 @@ fn value_mark(form: Form) -> &'static [u8]
 {
     match form {
         Form::Flag => b"\n",
-        Form::Host => b"=VALUE\n",
-        Form::Number { .. } => b"=VALUE\n",
-        Form::Addresses => b"=VALUE\n",
-        Form::Proxy => b"=VALUE\n",
-        Form::Kinds => b"=VALUE\n",
-        Form::Scheme => b"=VALUE\n",
-        Form::Path => b"=VALUE\n",
-        Form::Name => b"=VALUE\n",
-        Form::FieldText => b"=VALUE\n",
+        _ => b"=VALUE\n",
     }
 }
 
