@@ -1,8 +1,11 @@
 mod Answering
+mod Concluded
+mod Ended
+mod Entries
 mod Pieces
 mod Polling
 mod Respond
-mod ServingLemmas
 mod TextLemmas
 mod Timely
-mod Words
+mod Turns
+mod Unstopped

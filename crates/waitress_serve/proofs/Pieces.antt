@@ -5,6 +5,11 @@ use Rattle.std.proofs.lemmas.List.{take_min, take_all, take-append-le, drop_all,
 use Rattle.spill_buffer.specs.Buffer.{IsToldAs}
 use Rattle.wsgi.specs.declared.step.Step.TheVariants.{Piece}
 use Rattle.wsgi.specs.declared.step.Step.{Step}
+use Rattle.std.specs.Prelude.{Result, Ok, Err}
+use Rattle.std.specs.Result.{IsErr}
+use Rattle.wsgi.specs.Run.{TakesStep}
+use Rattle.wsgi.specs.declared.step.RunFault.{RunFault}
+use Rattle.wsgi.specs.declared.step.RunFault.TheVariants.{Outside, Spill, NoMemory}
 use Rattle.waitress_serve.specs.Echo.{piece_count, pieces, echo_rest, echo_left}
 
 -- what has the room of the first n bytes, and starts as the list does, is these bytes
@@ -50,3 +55,17 @@ next_piece start after old new piece before behind some first rest = rw before (
 pub next_falls : (start after : Option Step) (old new : List ℕ) → start ≡ None → after ≡ None → 0 < length old → length new ≡ length (drop 32768 old) → echo_left after (length new) < echo_left start (length old)
 next_falls start after old new before behind some rest =
     rw before (rw behind (rw rest (rw length-drop (omega (arith, piece_count-suc (length old) some)))))
+
+-- a fault while a piece is to be taken leaves that piece
+left_by : (result : Result (Option Step) RunFault) (steps : List Step) → IsErr result → (steps ≡ [] → ⊥) → TakesStep result steps steps
+left_by (Err Outside) steps failed some = (some, refl)
+left_by (Err Spill) steps failed some = (some, refl)
+left_by (Err NoMemory) steps failed some = refl
+left_by (Ok step) steps failed some = grind (arith, failed)
+
+no_step : (step : Step) (steps : List Step) → step ∷ steps ≡ [] → ⊥
+no_step step steps e = grind (arith, ap length e)
+
+pub fault_leaves : (result : Result (Option Step) RunFault) (start after : Option Step) (old new : List ℕ) → IsErr result → start ≡ None → after ≡ None → 0 < length old → new ≡ old → TakesStep result (echo_rest start old) (echo_rest after new)
+fault_leaves result start after old new failed before behind some same =
+    rw before (rw behind (rw same (rw (pieces-suc old some) (left_by result (Piece (take 32768 old) ∷ pieces (drop 32768 old)) failed (no_step (Piece (take 32768 old)) (pieces (drop 32768 old)))))))

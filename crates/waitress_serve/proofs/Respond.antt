@@ -1,21 +1,20 @@
 -- An answer that is written step by step.
-use Rattle.std.proofs.Common.{◌≡◌, length, arith, ℕ, Bool, true, false, List, [], ◌∷◌, ◌++◌, refl, ap, sym, ◌∙◌, append_assoc, append-nil, cond}
-use Rattle.std.specs.Prelude.{◌||◌, Option, Some, None, Ok}
+use Rattle.std.proofs.Common.{◌≡◌, length, arith, ℕ, Bool, true, false, List, [], ◌∷◌, ◌++◌, refl, ap, sym, subst, ◌∙◌, append_assoc, append-nil, cond}
+use Rattle.std.specs.Prelude.{◌||◌, Option, Some, None, Result, Ok, Err, IfOk}
+use Rattle.outside.specs.declared.types.Kind.{Kind}
 use Rattle.outside.specs.declared.types.Peer.{Peer}
 use Rattle.head_grammar.specs.declared.types.Head.{Head}
 use Rattle.request_stream.specs.Units.{request, refused, continued, Asked}
 use Rattle.task_core.specs.Answer.{answer, request_of}
-use Rattle.task_core.specs.Errors.{error_answer}
+use Rattle.task_core.specs.Errors.{error_answer, proxy_answer}
 use Rattle.task_core.specs.declared.wrote.Wrote.{Wrote}
 use Rattle.request_stream.specs.declared.types.Refused.{Refused}
-use Rattle.waitress_serve.specs.Echo.{echo_script}
-use Rattle.waitress_serve.specs.declared.settings.Settings.{Settings}
 use Rattle.wsgi.specs.Environ.{environ_of}
 use Rattle.wsgi.specs.Run.{TakesStep}
 use Rattle.task_core.specs.Answer.{Answer}
 use Rattle.task_core.specs.Steps.{Ends, Follows, GoesBy, onto, remaining}
 use Rattle.task_core.specs.declared.task.Task.{Task}
-use Rattle.waitress_serve.specs.Output.{answer_for, answers_for, any_closes, continue_text, joined}
+use Rattle.waitress_serve.specs.Output.{Server, Variables, answer_for, answers_for, any_closes, continue_text, joined, request_answer}
 use Rattle.waitress_serve.specs.Responding.{GoesOn, IsUnderWay, Responds, RespondsAll}
 use Rattle.wsgi.specs.declared.step.Step.{Step}
 
@@ -61,41 +60,55 @@ pub step_taken : (whole : Answer) (task next : Task) (step : Option Step) (wrote
 step_taken whole task next (Some step) wrote before rest old mid new h takes goes grown = by_step whole task next (wrote.head ++ wrote.body) old mid new before rest h grown step wrote.ended takes goes
 step_taken whole task next None wrote before rest old mid new h takes goes grown = by_end whole task next (wrote.head ++ wrote.body) old mid new before rest h grown wrote.ended takes.0 goes
 
-pub answer_for-request : (settings : Settings) (peer : Peer) (head : Head) (body : List ℕ) (moment : ℕ) →
-    answer_for settings peer (request head body moment) ≡ answer (request_of head moment settings.ident) (echo_script (environ_of head) body)
-unfolding answer_for
-answer_for-request settings peer head body moment = refl
+-- a request whose environ is known
+module _ (server : Server) (peer : Peer) (head : Head) (body : List ℕ) (moment size : ℕ) (sized : size ≡ length body) where
+  whole_body : environ_of server.settings.site peer head (length body) ≡ environ_of server.settings.site peer head size
+  whole_body = ap (environ_of server.settings.site peer head) (sym sized)
+
+  -- the application answers, unless the run fails
+  pub by_application : {E : Type 0} (environ : Variables) (result : Result Bool E) (old new : List ℕ) → environ_of server.settings.site peer head size ≡ Ok environ →
+      IfOk result (λ closes. Responds (answer (request_of head moment server.settings.site.ident) (server.script environ body)) closes old new) →
+      IfOk result (λ closes. Responds (answer_for server peer (request head body moment)) closes old new)
+  unfolding answer_for
+  by_application environ (Ok closes) old new made h = subst (λ e. Responds (request_answer server head body moment e) closes old new) (sym (whole_body ∙ made)) h
+  by_application environ (Err fault) old new made h = tt
+
+  -- a proxy's header is malformed
+  pub by_proxy : (kind : Kind) (old new : List ℕ) → environ_of server.settings.site peer head size ≡ Err kind →
+      new ≡ old ++ proxy_answer server.settings.site.ident kind head moment → Responds (answer_for server peer (request head body moment)) true old new
+  unfolding answer_for
+  by_proxy kind old new malformed grown = subst (λ e. Responds (request_answer server head body moment e) true old new) (sym (whole_body ∙ malformed)) (record { text = grown; closes_is = refl })
 
 -- the answers before a unit, and that to it
-module _ (settings : Settings) (peer : Peer) where
-  pub none_yet : (old : List ℕ) → RespondsAll (answers_for settings peer []) false old old
+module _ (server : Server) (peer : Peer) where
+  pub none_yet : (old : List ℕ) → RespondsAll (answers_for server peer []) false old old
   unfolding joined
   none_yet old = record { text = sym (append-nil old); closes_is = refl }
 
-  pub refused_is : (r : Refused) (old new : List ℕ) → new ≡ old ++ error_answer settings.ident r → Responds (answer_for settings peer (refused r)) true old new
+  pub refused_is : (r : Refused) (old new : List ℕ) → new ≡ old ++ error_answer server.settings.site.ident r → Responds (answer_for server peer (refused r)) true old new
   unfolding answer_for
   refused_is r old new e = record { text = e; closes_is = refl }
 
-  pub continued_is : (old new : List ℕ) → new ≡ old ++ continue_text → Responds (answer_for settings peer continued) false old new
+  pub continued_is : (old new : List ℕ) → new ≡ old ++ continue_text → Responds (answer_for server peer continued) false old new
   unfolding answer_for
   continued_is old new e = record { text = e; closes_is = refl }
 
   -- the answer to a unit closes, and those to the units behind it are left out
-  pub answered_last : (unit : Asked) (asked : List Asked) (old new : List ℕ) → Responds (answer_for settings peer unit) true old new → RespondsAll (answers_for settings peer (unit ∷ asked)) true old new
+  pub answered_last : (unit : Asked) (asked : List Asked) (old new : List ℕ) → Responds (answer_for server peer unit) true old new → RespondsAll (answers_for server peer (unit ∷ asked)) true old new
   unfolding joined
   answered_last unit asked old new h = record {
-    text = h.text ∙ ap (λ b. old ++ cond b (answer_for settings peer unit).text ((answer_for settings peer unit).text ++ joined (answers_for settings peer asked))) h.closes_is;
-    closes_is = ap (λ b. b || any_closes (answers_for settings peer asked)) h.closes_is;
+    text = h.text ∙ ap (λ b. old ++ cond b (answer_for server peer unit).text ((answer_for server peer unit).text ++ joined (answers_for server peer asked))) h.closes_is;
+    closes_is = ap (λ b. b || any_closes (answers_for server peer asked)) h.closes_is;
   }
 
   -- it doesn't, and they follow
-  pub answered_first : (unit : Asked) (asked : List Asked) (closes : Bool) (old mid new : List ℕ) → Responds (answer_for settings peer unit) false old mid → RespondsAll (answers_for settings peer asked) closes mid new →
-      RespondsAll (answers_for settings peer (unit ∷ asked)) closes old new
+  pub answered_first : (unit : Asked) (asked : List Asked) (closes : Bool) (old mid new : List ℕ) → Responds (answer_for server peer unit) false old mid → RespondsAll (answers_for server peer asked) closes mid new →
+      RespondsAll (answers_for server peer (unit ∷ asked)) closes old new
   unfolding joined
   answered_first unit asked closes old mid new h k = record {
-    text = k.text ∙ (ap (λ b. b ++ joined (answers_for settings peer asked)) h.text ∙ (append_assoc old (answer_for settings peer unit).text (joined (answers_for settings peer asked))
-        ∙ ap (λ b. old ++ cond b (answer_for settings peer unit).text ((answer_for settings peer unit).text ++ joined (answers_for settings peer asked))) h.closes_is));
-    closes_is = k.closes_is ∙ ap (λ b. b || any_closes (answers_for settings peer asked)) h.closes_is;
+    text = k.text ∙ (ap (λ b. b ++ joined (answers_for server peer asked)) h.text ∙ (append_assoc old (answer_for server peer unit).text (joined (answers_for server peer asked))
+        ∙ ap (λ b. old ++ cond b (answer_for server peer unit).text ((answer_for server peer unit).text ++ joined (answers_for server peer asked))) h.closes_is));
+    closes_is = k.closes_is ∙ ap (λ b. b || any_closes (answers_for server peer asked)) h.closes_is;
   }
 
 pub no_items : {A : Type 0} (xs : List A) → length xs ≡ 0 → xs ≡ []

@@ -16,7 +16,7 @@ use Rattle.waitress_serve.specs.Headline.{EntryHolds, IsTimely, IsWithin}
 use Rattle.waitress_serve.specs.Serving.{RetiresOne, Serves, Served}
 use Rattle.waitress_serve.specs.Output.{Input}
 use Rattle.waitress_serve.proofs.Polling.{time_same, time_trans, turn_time, turn_within}
-use Rattle.waitress_serve.proofs.ServingLemmas.{all_append, all_map, serves_polls, serves_more, served_last}
+use Rattle.waitress_serve.proofs.Turns.{all_append, all_map, serves_polls, serves_more, served_last}
 
 -- neither came anything nor was anything touched
 nothing_new : (now : ℕ) (old new : LinkState) → new.arrivals ≡ old.arrivals → new.touched ≡ old.touched → IsNewAt now old new
@@ -58,19 +58,19 @@ timely_new net now old new w n h = record {
 
 -- an entry that was retired earlier
 module _ {L P : Type 0} (tells : Bool) (state : L → LinkState) (faults : L → ℕ) (old new : NetState L P)
-    (output : Peer → Input → List ℕ) (closes : Peer → Input → Bool) (down : Type 0) (time : TimeGoesOn old new) where
-  pub later_entry : (entry : Retired L) → EntryHolds tells state faults old output closes down entry → EntryHolds tells state faults new output closes down entry
+    (output : Peer → Input → List ℕ) (closes : Peer → Input → Bool) (down broken : Type 0) (time : TimeGoesOn old new) where
+  pub later_entry : (entry : Retired L) → EntryHolds tells state faults old output closes down broken entry → EntryHolds tells state faults new output closes down broken entry
   later_entry entry h = record {
     prefix = h.prefix;
     timely = λ t. timely_later old new (state entry.link) time (h.timely t);
     cause = h.cause;
   }
 
-module _ {L P : Type 0} (tells : Bool) (state : L → LinkState) (faults : L → ℕ) (output : Peer → Input → List ℕ) (closes : Peer → Input → Bool)
+module _ {L P : Type 0} (tells : Bool) (state : L → LinkState) (faults : L → ℕ) (output : Peer → Input → List ℕ) (closes : Peer → Input → Bool) (broken : Type 0)
     (plan : L → P) (before now : ℕ) (old mid new : NetState L P) where
   -- serving goes on with polls
-  pub serves_later : Serves (EntryHolds tells state faults mid output closes ⊥) plan before now old mid → OnlyPolls mid new → Serves (EntryHolds tells state faults new output closes ⊥) plan before now old new
-  serves_later s k = serves_polls _ _ plan before now old mid new (later_entry tells state faults mid new output closes ⊥ k.time) s k
+  pub serves_later : Serves (EntryHolds tells state faults mid output closes ⊥ broken) plan before now old mid → OnlyPolls mid new → Serves (EntryHolds tells state faults new output closes ⊥ broken) plan before now old new
+  serves_later s k = serves_polls _ _ plan before now old mid new (later_entry tells state faults mid new output closes ⊥ broken k.time) s k
 
 -- a link came
 module _ {L P : Type 0} (plan : P) (peer : Peer) (mid turned came : NetState L P) (wants : List Want) (accepting : Bool) (turn : Turn)
@@ -86,18 +86,18 @@ module _ {L P : Type 0} (plan : P) (peer : Peer) (mid turned came : NetState L P
       subst (IsTimely came) (sym e) (record { came = tt; touched = within_later turned came turn.now same_time (turn_within wants accepting turn mid turned polled) })
 
 -- a link came, was served and was retired
-module _ {L P : Type 0} (tells : Bool) (state : L → LinkState) (faults : L → ℕ) (output : Peer → Input → List ℕ) (closes : Peer → Input → Bool)
+module _ {L P : Type 0} (tells : Bool) (state : L → LinkState) (faults : L → ℕ) (output : Peer → Input → List ℕ) (closes : Peer → Input → Bool) (broken : Type 0)
     (plan : L → P) (old mid turned came new : NetState L P) (wants : List Want) (accepting : Bool) (turn : Turn) (peer : Peer) (made : P)
     (polled : TellsTurn wants accepting turn mid turned) (accepted : GivesLink made peer turned came)
-    (first before now : ℕ) (s : Serves (EntryHolds tells state faults mid output closes ⊥) plan first before old mid) where
-  earlier : TimeGoesOn came new → (e : Retired L) → EntryHolds tells state faults mid output closes ⊥ e → EntryHolds tells state faults new output closes ⊥ e
-  earlier t = later_entry tells state faults mid new output closes ⊥ (time_trans mid came new (came_time made peer mid turned came wants accepting turn polled accepted) t)
+    (first before now : ℕ) (s : Serves (EntryHolds tells state faults mid output closes ⊥ broken) plan first before old mid) where
+  earlier : TimeGoesOn came new → (e : Retired L) → EntryHolds tells state faults mid output closes ⊥ broken e → EntryHolds tells state faults new output closes ⊥ broken e
+  earlier t = later_entry tells state faults mid new output closes ⊥ broken (time_trans mid came new (came_time made peer mid turned came wants accepting turn polled accepted) t)
 
   -- serving goes on
-  pub serves_next : RetiresOne (EntryHolds tells state faults new output closes ⊥) plan peer made before now came new → Serves (EntryHolds tells state faults new output closes ⊥) plan first now old new
+  pub serves_next : RetiresOne (EntryHolds tells state faults new output closes ⊥ broken) plan peer made before now came new → Serves (EntryHolds tells state faults new output closes ⊥ broken) plan first now old new
   serves_next one = serves_more plan old mid turned came new wants accepting turn peer made polled accepted _ _ _ (earlier one.time) first before now s one (λ h. h)
 
   -- serving ends, and the link was shut down
-  pub served_down : RetiresOne (EntryHolds tells state faults new output closes (Unit {0})) plan peer made before now came new →
-      Served (EntryHolds tells state faults new output closes ⊥) (EntryHolds tells state faults new output closes (Unit {0})) plan first now old new
+  pub served_down : RetiresOne (EntryHolds tells state faults new output closes (Unit {0}) broken) plan peer made before now came new →
+      Served (EntryHolds tells state faults new output closes ⊥ broken) (EntryHolds tells state faults new output closes (Unit {0}) broken) plan first now old new
   served_down one = served_last plan old mid turned came new wants accepting turn peer made polled accepted _ _ _ (earlier one.time) first before now s one

@@ -1,5 +1,5 @@
 -- Internal: what the calls of one connection leave of it, of its link and of the net.
-use Rattle.std.specs.Prelude.{◌≡◌, ◌≤◌, ◌+◌, ◌-◌, ◌⊎◌, ℕ, Bool, false, IsTrue, List, [], ◌++◌, length, drop, Option, None, Some, IsSomeAnd}
+use Rattle.std.specs.Prelude.{◌≡◌, ◌<◌, ◌≤◌, ◌+◌, ◌-◌, ◌⊎◌, ℕ, Bool, true, false, IsTrue, List, [], ◌++◌, length, drop, Option, None, Some, IsSomeAnd}
 use Rattle.outside.specs.Causes.{Rose}
 use Rattle.outside.specs.Link.{LinkState, stamped}
 use Rattle.outside.specs.Net.{NetState, Poll, last_moment}
@@ -7,9 +7,8 @@ use Rattle.outside.specs.declared.types.Peer.{Peer}
 use Rattle.request_stream.specs.Story.{Story}
 use Rattle.request_stream.specs.Units.{Asked, units}
 use Rattle.waitress_serve.specs.Headline.{IsPrefix, IsServed, IsWithin}
-use Rattle.waitress_serve.specs.Output.{any_closes, answers_for, has_closed, joined, responses}
-use Rattle.waitress_serve.specs.Status.{ToldStop, StopsLast}
-use Rattle.waitress_serve.specs.declared.settings.Settings.{Settings}
+use Rattle.waitress_serve.specs.Output.{Server, any_closes, answers_for, has_closed, joined, responses}
+use Rattle.waitress_serve.specs.Status.{IsUnstopped, ToldStop, StopsLast}
 use Rattle.waitress_serve.specs.declared.waiting.Waited.{Waited}
 use Rattle.waitress_serve.specs.declared.waiting.Waited.TheVariants as waited
 use Rattle.waitress_serve.specs.declared.outcome.Ending.{Ending}
@@ -58,41 +57,42 @@ pub record IsNewAt (now : ℕ) (old new : LinkState) : Type 0 where
   pub touched : (new.touched ≡ old.touched) ⊎ (new.touched ≡ now)
 
 -- what was sent, and what is left to be sent, are the answers to what came
-pub record IsAnswering (settings : Settings) (peer : Peer) (link : LinkState) (pending : List ℕ) (closing : Bool) : Type 0 where
-  pub whole : link.sent ++ pending ≡ responses settings peer link.arrivals
-  pub closed : closing ≡ has_closed settings peer link.arrivals
+pub record IsAnswering (server : Server) (peer : Peer) (link : LinkState) (pending : List ℕ) (closing : Bool) : Type 0 where
+  pub whole : link.sent ++ pending ≡ responses server peer link.arrivals
+  pub closed : closing ≡ has_closed server peer link.arrivals
 
 -- A connection goes on: its stream was fed what came, and the output has the answers that are not
--- all sent, from its byte number at on. link_tells and spill_tells say whether these are told.
-pub record IsServing (link_tells spill_tells : Bool) (settings : Settings) (peer : Peer)
+-- all sent, from its byte number at on. link_tells says whether the link is told, and tells whether
+-- the bodies and what the application gives are.
+pub record IsServing (link_tells tells : Bool) (server : Server) (peer : Peer)
     (link : LinkState) (story : Story) (output : List ℕ) (at : ℕ) (closing : Bool) : Type 0 where
   pub within : at ≤ length output
-  pub limits : story.limits ≡ settings.limits
+  pub limits : story.limits ≡ server.settings.limits
   pub unfailed : story.failed ≡ false
   pub fed : IsTrue link_tells → story.fed ≡ link.arrivals
-  pub answers : IsTrue link_tells → IsTrue spill_tells →
-      IsAnswering settings peer link (drop at output) closing
+  pub answers : IsTrue link_tells → IsTrue tells →
+      IsAnswering server peer link (drop at output) closing
 
 -- the output has the answers to what a piece completes, and nothing else
-pub record Answered (spill_tells : Bool) (settings : Settings) (peer : Peer) (now : ℕ) (piece : List ℕ)
+pub record Answered (tells : Bool) (server : Server) (peer : Peer) (now : ℕ) (piece : List ℕ)
     (old new : Story) (output : List ℕ) (at : ℕ) (closing : Bool) : Type 0 where
   pub limits : new.limits ≡ old.limits
   pub unfailed : new.failed ≡ false
   pub fed : new.fed ≡ old.fed ++ stamped now piece
   pub all : at ≡ 0
-  pub more : IsTrue spill_tells → (asked : List Asked)
+  pub more : IsTrue tells → (asked : List Asked)
       × (units old.limits new.fed ≡ units old.limits old.fed ++ asked)
-      × (output ≡ joined (answers_for settings peer asked))
-      × (closing ≡ any_closes (answers_for settings peer asked))
+      × (output ≡ joined (answers_for server peer asked))
+      × (closing ≡ any_closes (answers_for server peer asked))
 
 -- the link was sent all that answers what came
-abbrev pub IsAnswered : Settings → Peer → LinkState → Type 0
-IsAnswered settings peer link =
-    IsServed link (responses settings peer link.arrivals) (has_closed settings peer link.arrivals)
+abbrev pub IsAnswered : Server → Peer → LinkState → Type 0
+IsAnswered server peer link =
+    IsServed link (responses server peer link.arrivals) (has_closed server peer link.arrivals)
 
 -- the link was sent the first bytes of what answers what came
-abbrev pub IsPartlyAnswered : Settings → Peer → LinkState → Type 0
-IsPartlyAnswered settings peer link = IsPrefix link.sent (responses settings peer link.arrivals)
+abbrev pub IsPartlyAnswered : Server → Peer → LinkState → Type 0
+IsPartlyAnswered server peer link = IsPrefix link.sent (responses server peer link.arrivals)
 
 -- only a failing poll raises the net's count
 abbrev pub WaitPolls : Waited → ℕ → ℕ → Type 0
@@ -109,6 +109,18 @@ WaitStops (waited.Ready _) old new = Unit {0}
 WaitStops waited.NotReady old new = Unit {0}
 WaitStops waited.NoMemory old new = Unit {0}
 
+-- a poll told to stop, or none has since
+abbrev pub UnlessStopped : Bool → Bool → Bool → Type 0
+UnlessStopped true old new = Unit {0}
+UnlessStopped false old new = IsUnstopped old new
+
+abbrev pub wait_is_stop : Waited → Bool
+wait_is_stop waited.Stopped = true
+wait_is_stop (waited.Ready _) = false
+wait_is_stop waited.NotReady = false
+wait_is_stop waited.Failed = false
+wait_is_stop waited.NoMemory = false
+
 -- the moment at which a link is ready is one of the net
 abbrev pub ReadyNow : {L P : Type 0} → Waited → NetState L P → Type 0
 ReadyNow (waited.Ready now) net = IsWithin net now
@@ -117,18 +129,25 @@ ReadyNow waited.Stopped net = Unit {0}
 ReadyNow waited.Failed net = Unit {0}
 ReadyNow waited.NoMemory net = Unit {0}
 
+abbrev pub outcome_is_stop : Outcome → Bool
+outcome_is_stop outcome.Stopped = true
+outcome_is_stop outcome.PollFailed = false
+outcome_is_stop (outcome.Over ending) = false
+
 -- what the end of an exchange leaves of its link
-abbrev pub Leaves : Settings → Peer → Ending → LinkState → Type 0
-Leaves settings peer ending.Done link = IsAnswered settings peer link
-Leaves settings peer ending.LinkFault link = IsPartlyAnswered settings peer link
-Leaves settings peer ending.SpillFault link = IsPartlyAnswered settings peer link
-Leaves settings peer ending.NoMemory link = IsPartlyAnswered settings peer link
+abbrev pub Leaves : Server → Peer → Ending → LinkState → Type 0
+Leaves server peer ending.Done link = IsAnswered server peer link
+Leaves server peer ending.LinkFault link = IsPartlyAnswered server peer link
+Leaves server peer ending.SpillFault link = IsPartlyAnswered server peer link
+Leaves server peer ending.AppFault link = IsPartlyAnswered server peer link
+Leaves server peer ending.NoMemory link = IsPartlyAnswered server peer link
 
 -- only a fault of the link raises its count
 abbrev pub LinkFaults : Ending → ℕ → ℕ → Type 0
 LinkFaults ending.LinkFault before now = Rose before now
 LinkFaults ending.Done before now = now ≡ before
 LinkFaults ending.SpillFault before now = now ≡ before
+LinkFaults ending.AppFault before now = now ≡ before
 LinkFaults ending.NoMemory before now = now ≡ before
 
 -- only a fault of a spill raises the count of the spills
@@ -136,12 +155,26 @@ abbrev pub SpillFaults : Ending → ℕ → ℕ → Type 0
 SpillFaults ending.SpillFault before now = Rose before now
 SpillFaults ending.Done before now = now ≡ before
 SpillFaults ending.LinkFault before now = now ≡ before
+SpillFaults ending.AppFault before now = now ≡ before
 SpillFaults ending.NoMemory before now = now ≡ before
 
+-- Some run has failed to reach what it reads or writes; faults counts how often each run did. Which run it
+-- was isn't told: of an application whose runs never fail it says that there is none.
+abbrev pub HasBroken : {R : Type 0} → (R → ℕ) → Type 0
+HasBroken {R} faults = (run : R) × (0 < faults run)
+
+-- only a run that broke ends an exchange as the application's fault
+abbrev pub Breaks : {R : Type 0} → (R → ℕ) → Ending → Type 0
+Breaks faults ending.AppFault = HasBroken faults
+Breaks faults ending.Done = Unit {0}
+Breaks faults ending.LinkFault = Unit {0}
+Breaks faults ending.SpillFault = Unit {0}
+Breaks faults ending.NoMemory = Unit {0}
+
 -- what a step that ends an exchange leaves
-abbrev pub StepLeaves : Settings → Peer → Option Ending → LinkState → Type 0
-StepLeaves settings peer None link = Unit {0}
-StepLeaves settings peer (Some ending) link = Leaves settings peer ending link
+abbrev pub StepLeaves : Server → Peer → Option Ending → LinkState → Type 0
+StepLeaves server peer None link = Unit {0}
+StepLeaves server peer (Some ending) link = Leaves server peer ending link
 
 abbrev pub StepFaults : Option Ending → ℕ → ℕ → Type 0
 StepFaults None before now = now ≡ before
@@ -151,11 +184,15 @@ abbrev pub StepSpills : Option Ending → ℕ → ℕ → Type 0
 StepSpills None before now = now ≡ before
 StepSpills (Some ending) before now = SpillFaults ending before now
 
+abbrev pub StepBreaks : {R : Type 0} → (R → ℕ) → Option Ending → Type 0
+StepBreaks faults None = Unit {0}
+StepBreaks faults (Some ending) = Breaks faults ending
+
 -- the same of an exchange
-abbrev pub OutcomeLeaves : Settings → Peer → Outcome → LinkState → Type 0
-OutcomeLeaves settings peer (outcome.Over ending) link = Leaves settings peer ending link
-OutcomeLeaves settings peer outcome.Stopped link = IsPartlyAnswered settings peer link
-OutcomeLeaves settings peer outcome.PollFailed link = IsPartlyAnswered settings peer link
+abbrev pub OutcomeLeaves : Server → Peer → Outcome → LinkState → Type 0
+OutcomeLeaves server peer (outcome.Over ending) link = Leaves server peer ending link
+OutcomeLeaves server peer outcome.Stopped link = IsPartlyAnswered server peer link
+OutcomeLeaves server peer outcome.PollFailed link = IsPartlyAnswered server peer link
 
 abbrev pub OutcomeFaults : Outcome → ℕ → ℕ → Type 0
 OutcomeFaults (outcome.Over ending) before now = LinkFaults ending before now
@@ -166,6 +203,11 @@ abbrev pub OutcomeSpills : Outcome → ℕ → ℕ → Type 0
 OutcomeSpills (outcome.Over ending) before now = SpillFaults ending before now
 OutcomeSpills outcome.Stopped before now = now ≡ before
 OutcomeSpills outcome.PollFailed before now = now ≡ before
+
+abbrev pub OutcomeBreaks : {R : Type 0} → (R → ℕ) → Outcome → Type 0
+OutcomeBreaks faults (outcome.Over ending) = Breaks faults ending
+OutcomeBreaks faults outcome.Stopped = Unit {0}
+OutcomeBreaks faults outcome.PollFailed = Unit {0}
 
 -- only a failing poll raises the net's count
 abbrev pub PollFaults : Outcome → ℕ → ℕ → Type 0

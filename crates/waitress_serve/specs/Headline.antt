@@ -21,16 +21,16 @@ pub record IsServed (link : LinkState) (output : List ℕ) (closes : Bool) : Typ
   pub whole : link.sent ≡ output
   pub over : IsTrue (link.ended || closes)
 
--- Why a link was retired; down says why the whole server went down. A fault of a spill is counted by
--- the spills, of which SettlesSpills speaks.
-abbrev pub EndCause : Bool → LinkState → ℕ → List ℕ → Bool → Type 0 → End → Type 0
-EndCause tells link faults output closes down over.Done = IsTrue tells → IsServed link output closes
-EndCause tells link faults output closes down over.LinkFault = 0 < faults
-EndCause tells link faults output closes down over.NoMemory = Unit {0}
-EndCause tells link faults output closes down over.ShutDown = down
-EndCause tells link faults output closes down over.SpillFault = Unit {0}
-EndCause tells link faults output closes down over.AppFault = ⊥
-EndCause tells link faults output closes down (over.TimedOut touched now) = ⊥
+-- Why a link was retired; down says why the whole server went down, and broken why an application's
+-- run broke. A fault of a spill is counted by the spills, of which SettlesSpills speaks.
+abbrev pub EndCause : Bool → LinkState → ℕ → List ℕ → Bool → Type 0 → Type 0 → End → Type 0
+EndCause tells link faults output closes down broken over.Done = IsTrue tells → IsServed link output closes
+EndCause tells link faults output closes down broken over.LinkFault = 0 < faults
+EndCause tells link faults output closes down broken over.NoMemory = Unit {0}
+EndCause tells link faults output closes down broken over.ShutDown = down
+EndCause tells link faults output closes down broken over.SpillFault = Unit {0}
+EndCause tells link faults output closes down broken over.AppFault = broken
+EndCause tells link faults output closes down broken (over.TimedOut touched now) = ⊥
 
 -- a moment lies between the first and the last moment of a net
 pub record IsWithin {L P : Type 0} (net : NetState L P) (moment : ℕ) : Type 0 where
@@ -49,11 +49,11 @@ pub record IsTimely {L P : Type 0} (net : NetState L P) (link : LinkState) : Typ
 -- served by tells.
 pub record EntryHolds {L P : Type 0} (tells : Bool) (state : L → LinkState) (faults : L → ℕ)
     (net : NetState L P) (output : Peer → Input → List ℕ) (closes : Peer → Input → Bool)
-    (down : Type 0) (entry : Retired L) : Type 0 where
+    (down broken : Type 0) (entry : Retired L) : Type 0 where
   pub prefix : IsTrue tells → IsPrefix (state entry.link).sent (output entry.peer (state entry.link).arrivals)
   pub timely : IsTrue tells → IsTimely net (state entry.link)
   pub cause : EndCause tells (state entry.link) (faults entry.link)
-      (output entry.peer (state entry.link).arrivals) (closes entry.peer (state entry.link).arrivals) down entry.end
+      (output entry.peer (state entry.link).arrivals) (closes entry.peer (state entry.link).arrivals) down broken entry.end
 
 -- a list grew by entries that all hold
 pub record Added {E : Type 0} (Holds : E → Type 0) (old new : List E) : Type 0 where

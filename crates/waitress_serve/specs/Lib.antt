@@ -1,3 +1,4 @@
+pub mod Conclusions
 pub mod Connection
 pub mod Echo
 pub mod EchoLaw

@@ -1,5 +1,5 @@
 -- Internal: what the loop of turns leaves of the net.
-use Rattle.std.specs.Prelude.{◌≡◌, ◌≤◌, ◌+◌, ◌⊎◌, ℕ, List, [], ◌∷◌, ◌++◌, length, map, Option, None, Some}
+use Rattle.std.specs.Prelude.{◌≡◌, ◌≤◌, ◌+◌, ◌⊎◌, ℕ, Bool, true, false, List, [], ◌∷◌, ◌++◌, length, map, Option, None, Some}
 use Rattle.std.specs.List.{AllByRecursion}
 use Rattle.outside.specs.Causes.{Rose, added}
 use Rattle.outside.specs.Net.{NetState}
@@ -20,6 +20,7 @@ abbrev pub end_of : Outcome → End
 end_of (outcome.Over ending.Done) = over.Done
 end_of (outcome.Over ending.LinkFault) = over.LinkFault
 end_of (outcome.Over ending.SpillFault) = over.SpillFault
+end_of (outcome.Over ending.AppFault) = over.AppFault
 end_of (outcome.Over ending.NoMemory) = over.NoMemory
 end_of outcome.Stopped = over.ShutDown
 end_of outcome.PollFailed = over.ShutDown
@@ -104,3 +105,12 @@ GoesPolls (Some going) before now = GoingPolls going before now
 abbrev pub GoesStops : {L P : Type 0} → Option Going → NetState L P → NetState L P → Type 0
 GoesStops None old new = Unit {0}
 GoesStops (Some going) old new = GoingStops going old new
+
+abbrev pub going_is_stop : Going → Bool
+going_is_stop going.Stopped = true
+going_is_stop going.NetFailed = false
+going_is_stop going.NoMemory = false
+
+abbrev pub goes_to_stop : Option Going → Bool
+goes_to_stop None = false
+goes_to_stop (Some going) = going_is_stop going

@@ -1,6 +1,12 @@
 -- The statuses of the program, their causes and their texts.
-use Rattle.std.specs.Prelude.{◌≡◌, ◌≢◌, ℕ, IsTrue, List, [], ◌∷◌, ◌++◌, take, IsSomeAnd, if◌then◌else◌, nat_eq, codes, decimal, map, String}
-use Rattle.std.specs.String.{string_bytes}
+use Rattle.std.specs.Prelude.{◌≡◌, ◌⊎◌, ℕ, Bool, true, false, IsTrue, List, [], ◌∷◌, ◌++◌, ◌||◌, take, IsSomeAnd, if◌then◌else◌, nat_eq, codes, Result, Ok, Err}
+use Rattle.adjust.specs.Command.{command}
+use Rattle.adjust.specs.Texts.{check_text_of, fault_text_of, help_text_of, listen_text}
+use Rattle.adjust.specs.declared.types.Adjustments.{Adjustments}
+use Rattle.adjust.specs.declared.types.AppName.TheVariants as app
+use Rattle.adjust.specs.declared.types.Command.{Command}
+use Rattle.adjust.specs.declared.types.Command.TheVariants as command
+use Rattle.adjust.specs.declared.types.UsageFault.{UsageFault}
 use Rattle.outside.specs.Causes.{Rose}
 use Rattle.outside.specs.Net.{NetState}
 use Rattle.outside.specs.declared.types.Listen.{Listen}
@@ -10,55 +16,111 @@ pub record ToldStop {L P : Type 0} (old new : NetState L P) : Type 0 where
   pub polled : Rose old.polls new.polls
   pub stopped : IsTrue new.stopped
 
+-- whether the last poll told to stop: it didn't, or nothing has changed since
+abbrev pub IsUnstopped : Bool → Bool → Type 0
+IsUnstopped old new = (new ≡ false) ⊎ (new ≡ old)
+
 -- the last poll told to stop, and nobody was accepted behind it
 abbrev pub StopsLast : {L P : Type 0} → NetState L P → Type 0
 StopsLast net = IsSomeAnd net.last (λ poll. IsTrue poll.turn.stop × (poll.given ≡ net.given))
 
--- words as bytes
-abbrev pub words_of : {Z : Type 0} → List (String Z) → List (List ℕ)
-words_of words = map string_bytes words
+-- ---- what is asked for
 
--- the words are a faulty command line: anything but the one word echo
-abbrev pub IsFaulty : List (List ℕ) → Type 0
-IsFaulty words = words ≢ codes "echo" ∷ []
+-- what words are read as
+abbrev pub Reading : Type 0
+Reading = Result Command UsageFault
 
--- every address of this machine, at port 8080
-abbrev pub default_listen : List Listen
-default_listen = record { host = codes "0.0.0.0"; port = 8080 } ∷ []
+-- the words are a usage fault
+abbrev pub is_faulty : Reading → Bool
+is_faulty (Err fault) = true
+is_faulty (Ok command) = false
 
--- the addresses that a server with these words listens at
-abbrev pub listen_of : List (List ℕ) → List Listen
-listen_of words = default_listen
+-- connections are served
+abbrev pub serves : Reading → Bool
+serves (Ok (command.Serve options app.Echo)) = true
+serves _ = false
+
+-- a text is printed, and nothing else is done
+abbrev pub prints : Reading → Bool
+prints (Ok (command.Check options)) = true
+prints (Ok command.Help) = true
+prints _ = false
+
+-- what is asked for isn't built yet
+abbrev pub is_unbuilt : Reading → Bool
+is_unbuilt (Ok (command.Serve options (app.Table file))) = true
+is_unbuilt (Ok (command.Serve options (app.Dir root))) = true
+is_unbuilt (Ok (command.Rehearse connections)) = true
+is_unbuilt _ = false
+
+-- the addresses that a server with these options listens at
+abbrev pub addresses_or : Listen → List Listen → List Listen
+addresses_or one [] = one ∷ []
+addresses_or one (listen ∷ rest) = listen ∷ rest
+
+abbrev pub addresses_of : Adjustments → List Listen
+addresses_of options = addresses_or (record { host = options.host; port = options.port }) options.listen
+
+abbrev pub listen_by : Reading → List Listen
+listen_by (Ok (command.Serve options app)) = addresses_of options
+listen_by _ = []
+
+-- ---- what is printed
 
 -- the line that tells one address
 abbrev pub serving_line : Listen → List ℕ
-serving_line listen =
-    codes "Serving on http://" ++ (listen.host ++ (codes ":" ++ (decimal listen.port ++ codes "\n")))
+serving_line listen = codes "Serving on http://" ++ (listen_text listen ++ codes "\n")
 
--- what is printed before serving: a line for each address
+-- a line for each address
 unfoldable pub serving_lines : List Listen → List ℕ
 serving_lines [] = []
 serving_lines (listen ∷ rest) = serving_line listen ++ serving_lines rest
 
+-- what is printed: before serving, or instead of it
+abbrev pub printed : Reading → List ℕ
+printed (Ok (command.Serve options app.Echo)) = serving_lines (addresses_of options)
+printed (Ok (command.Check options)) = check_text_of options
+printed (Ok command.Help) = help_text_of
+printed _ = []
+
+-- ---- what is reported
+
+abbrev pub usage_text : Reading → List ℕ
+usage_text (Err fault) = fault_text_of fault
+usage_text (Ok command) = []
+
+abbrev pub line_of : List ℕ → List ℕ
+line_of reason = codes "waitress-serve: " ++ (reason ++ codes "\n")
+
 -- what is reported with a status
-unfoldable pub report_text : ℕ → List ℕ
-report_text status =
-    if nat_eq status 1 then codes "waitress-serve: not built\n"
-    else if nat_eq status 3 then codes "waitress-serve: bind failed\n"
-    else if nat_eq status 4 then codes "waitress-serve: poll failed\n"
-    else if nat_eq status 5 then codes "waitress-serve: out of memory\n"
+unfoldable pub report_text : Reading → ℕ → List ℕ
+report_text asked status =
+    if nat_eq status 1 then line_of (usage_text asked)
+    else if nat_eq status 2 then line_of (codes "the application could not be made: not built")
+    else if nat_eq status 3 then line_of (codes "bind failed")
+    else if nat_eq status 4 then line_of (codes "poll failed")
+    else if nat_eq status 5 then line_of (codes "out of memory")
     else []
 
 -- what a run with these words writes to the error sink
 abbrev pub status_text : List (List ℕ) → ℕ → List ℕ
-status_text words status = report_text status
+status_text words status = report_text (command words) status
 
 -- the first bytes of a text were written
 pub record WritesPart (text old new : List ℕ) : Type 0 where
   pub count : ℕ
   pub written : new ≡ old ++ take count text
 
--- the first bytes of the text of one status were written
+-- whether what is asked for can end with this status and a text
+abbrev pub may_report : Reading → ℕ → Bool
+may_report asked status =
+    if nat_eq status 1 then is_faulty asked
+    else if nat_eq status 2 then is_unbuilt asked
+    else if nat_eq status 3 || nat_eq status 4 then serves asked
+    else nat_eq status 5
+
+-- the first bytes of the text of such a status were written
 pub record WritesSome (words : List (List ℕ)) (old new : List ℕ) : Type 0 where
   pub status : ℕ
+  pub may : IsTrue (may_report (command words) status)
   pub part : WritesPart (status_text words status) old new

@@ -1,15 +1,17 @@
 //! One connection that is being served.
 ghost use Rattle.std.specs.Prelude.{◌≡◌, ◌<◌, ◌&&◌, ◌==◌, ℕ, None, IsTrue, length, false, IfErr, OnOk};
-ghost use Rattle.request_stream.specs.Asks.{IsCaused};
-ghost use Rattle.request_stream.specs.Reading.{ArePositive};
-ghost use Rattle.waitress_serve.specs.Connection.{Answered, IsFresh, IsNewAt, IsServing, StepFaults, StepLeaves, StepSpills};
+ghost use Rattle.waitress_serve.specs.Connection.{Answered, IsFresh, IsNewAt, IsServing, StepBreaks, StepFaults, StepLeaves, StepSpills};
+ghost use Rattle.waitress_serve.specs.Output.{server_with};
+ghost use Rattle.waitress_serve.specs.Responding.{IsCaused};
+ghost use Rattle.waitress_serve.specs.Settings.{IsUsable};
 
 use crate::outcome::Ending;
-use crate::responding::respond;
-use crate::settings::Settings;
+use crate::responding::{ResponseFault, respond};
+use crate::service::Service;
 use outside::{Link, Peer, Recv, Sent, Spill, Spills, Want};
-use request_stream::{Stream, StreamFault};
+use request_stream::Stream;
 use std::alloc::Global;
+use wsgi::App;
 
 /// A connection: its link, what it asks for, and the answers to it.
 #[derive(Drop)]
@@ -26,17 +28,24 @@ pub(crate) struct Connection<L, S: Spill + Drop> {
 }
 
 impl<L: Link + Drop, S: Spill + Send + Drop> Connection<L, S> {
-    pub(crate) fn new(alloc: Global, settings: &Settings, link: L, peer: Peer) -> Connection<L, S>
-        requires positive { ArePositive settings.now.limits }
+    pub(crate) fn new<A: App<S>>(
+        alloc: Global,
+        service: &Service<A>,
+        link: L,
+        peer: Peer,
+    ) -> Connection<L, S>
+        requires usable { IsUsable service.now.settings }
         requires fresh { IsTrue L.tells → IsFresh (L.state link) }
         ensures link { result.link ≡ link }
         ensures peer { result.peer ≡ peer }
-        ensures serving { IsServing L.tells S.tells settings.now peer (L.state link) result.stream result.output.items result.sent result.closing }
+        ensures serving { IsServing L.tells (S.tells && A.tells)
+            (server_with service.now.settings (A.script service.now.app))
+            peer (L.state link) result.stream result.output.items result.sent result.closing }
     {
         Connection {
             link,
             peer,
-            stream: Stream::new(alloc, settings.limits),
+            stream: Stream::new(alloc, service.settings.limits),
             output: Vec::new(alloc),
             sent: 0,
             closing: false,
@@ -69,35 +78,38 @@ impl<L: Link + Drop, S: Spill + Send + Drop> Connection<L, S> {
     }
 
     // Puts the answers to what a piece completes into the output, in which nothing is left to send.
-    fn answer<P: Spills<Spill = S>>(
+    fn answer<P: Spills<Spill = S>, A: App<S>>(
         &mut self,
         alloc: Global,
-        settings: &Settings,
+        service: &Service<A>,
         now: u64,
         piece: &[u8],
         spills: &mut P,
-    ) -> Result<(), StreamFault<S>>
-        requires limits { self.old.stream.limits ≡ settings.now.limits }
+    ) -> Result<(), ResponseFault<S, A::Run>>
+        requires usable { IsUsable service.now.settings }
+        requires limits { self.old.stream.limits ≡ service.now.settings.limits }
         requires unfailed { self.old.stream.failed ≡ false }
         ensures link { self.new.link ≡ self.old.link }
         ensures peer { self.new.peer ≡ self.old.peer }
         ensures spills { P.faults spills.new ≡ P.faults spills.old }
-        ensures cause { IfErr result (IsCaused S.faults) }
-        ensures answered { OnOk result (Answered S.tells settings.now self.new.peer now piece.now
+        ensures cause { IfErr result (IsCaused S.faults A.Run.faults) }
+        ensures answered { OnOk result (Answered (S.tells && A.tells)
+            (server_with service.now.settings (A.script service.now.app))
+            self.new.peer now piece.now
             self.old.stream self.new.stream self.new.output.items self.new.sent self.new.closing) }
     {
         self.output.clear();
         self.sent = 0;
         let units = self.stream.feed(alloc, now, piece, spills)?;
-        self.closing = respond(alloc, settings, &self.peer, units, &mut self.output)?;
+        self.closing = respond(alloc, service, &self.peer, units, &mut self.output)?;
         Ok(())
     }
 
     // Makes one recv, and answers what it completes.
-    fn receive<P: Spills<Spill = S>>(
+    fn receive<P: Spills<Spill = S>, A: App<S>>(
         &mut self,
         alloc: Global,
-        settings: &Settings,
+        service: &Service<A>,
         now: u64,
         piece: &mut [u8],
         spills: &mut P,
@@ -105,25 +117,35 @@ impl<L: Link + Drop, S: Spill + Send + Drop> Connection<L, S> {
         requires room { 0 < length piece.old }
         requires sent { self.old.sent ≡ length self.old.output.items }
         requires unclosed { self.old.closing ≡ false }
-        requires positive { ArePositive settings.now.limits }
-        requires serving { IsServing L.tells S.tells settings.now self.old.peer (L.state self.old.link) self.old.stream self.old.output.items self.old.sent self.old.closing }
-        ensures goes_on { result ≡ None → IsServing L.tells S.tells settings.now self.new.peer (L.state self.new.link) self.new.stream self.new.output.items self.new.sent self.new.closing }
-        ensures leaves { IsTrue L.tells → IsTrue S.tells → StepLeaves settings.now self.new.peer result (L.state self.new.link) }
+        requires usable { IsUsable service.now.settings }
+        requires serving { IsServing L.tells (S.tells && A.tells)
+            (server_with service.now.settings (A.script service.now.app))
+            self.old.peer (L.state self.old.link) self.old.stream self.old.output.items
+            self.old.sent self.old.closing }
+        ensures goes_on { result ≡ None → IsServing L.tells (S.tells && A.tells)
+            (server_with service.now.settings (A.script service.now.app))
+            self.new.peer (L.state self.new.link) self.new.stream self.new.output.items
+            self.new.sent self.new.closing }
+        ensures leaves { IsTrue L.tells → IsTrue (S.tells && A.tells) → StepLeaves
+            (server_with service.now.settings (A.script service.now.app))
+            self.new.peer result (L.state self.new.link) }
         ensures moment { IsTrue L.tells → IsNewAt now (L.state self.old.link) (L.state self.new.link) }
         ensures faults { StepFaults result (L.faults self.old.link) (L.faults self.new.link) }
         ensures spills { StepSpills result (P.faults spills.old) (P.faults spills.new) }
+        ensures broken { StepBreaks A.Run.faults result }
         ensures made { L.plan self.new.link ≡ L.plan self.old.link }
         ensures peer { self.new.peer ≡ self.old.peer }
         ensures room { length piece.new ≡ length piece.old }
     {
         match self.link.recv(now, piece) {
-            Recv::Got(count) => match self.answer(alloc, settings, now, &piece[..count], spills) {
+            Recv::Got(count) => match self.answer(alloc, service, now, &piece[..count], spills) {
                 Ok(()) => None,
-                Err(StreamFault::Spill(spill)) => {
+                Err(ResponseFault::Spill(spill)) => {
                     spills.settle(spill);
                     Some(Ending::SpillFault)
                 }
-                Err(StreamFault::NoMemory) => Some(Ending::NoMemory),
+                Err(ResponseFault::App(_)) => Some(Ending::AppFault),
+                Err(ResponseFault::NoMemory) => Some(Ending::NoMemory),
             },
             Recv::NotYet => None,
             Recv::End => Some(Ending::Done),
@@ -132,18 +154,27 @@ impl<L: Link + Drop, S: Spill + Send + Drop> Connection<L, S> {
     }
 
     // Makes one send of what is left of the output.
-    fn send(&mut self, settings: &Settings, now: u64) -> Option<Ending>
+    fn send<A: App<S>>(&mut self, service: &Service<A>, now: u64) -> Option<Ending>
         requires some { self.old.sent < length self.old.output.items }
-        requires serving { IsServing L.tells S.tells settings.now self.old.peer (L.state self.old.link) self.old.stream self.old.output.items self.old.sent self.old.closing }
-        ensures goes_on { result ≡ None → IsServing L.tells S.tells settings.now self.new.peer (L.state self.new.link) self.new.stream self.new.output.items self.new.sent self.new.closing }
-        ensures leaves { IsTrue L.tells → IsTrue S.tells → StepLeaves settings.now self.new.peer result (L.state self.new.link) }
+        requires serving { IsServing L.tells (S.tells && A.tells)
+            (server_with service.now.settings (A.script service.now.app))
+            self.old.peer (L.state self.old.link) self.old.stream self.old.output.items
+            self.old.sent self.old.closing }
+        ensures goes_on { result ≡ None → IsServing L.tells (S.tells && A.tells)
+            (server_with service.now.settings (A.script service.now.app))
+            self.new.peer (L.state self.new.link) self.new.stream self.new.output.items
+            self.new.sent self.new.closing }
+        ensures leaves { IsTrue L.tells → IsTrue (S.tells && A.tells) → StepLeaves
+            (server_with service.now.settings (A.script service.now.app))
+            self.new.peer result (L.state self.new.link) }
         ensures moment { IsTrue L.tells → IsNewAt now (L.state self.old.link) (L.state self.new.link) }
         ensures unspilled { (count : ℕ) → StepSpills result count count }
+        ensures unbroken { StepBreaks A.Run.faults result }
         ensures faults { StepFaults result (L.faults self.old.link) (L.faults self.new.link) }
         ensures made { L.plan self.new.link ≡ L.plan self.old.link }
         ensures peer { self.new.peer ≡ self.old.peer }
     {
-        let _ = settings;
+        let _ = service;
         match self.link.send(now, &self.output[self.sent..]) {
             Sent::Took(count) => {
                 self.sent += count;
@@ -156,31 +187,40 @@ impl<L: Link + Drop, S: Spill + Send + Drop> Connection<L, S> {
 
     /// Makes one send, or one recv where all is sent. Answers how the exchange ends with it, where
     /// it does.
-    pub(crate) fn step<P: Spills<Spill = S>>(
+    pub(crate) fn step<P: Spills<Spill = S>, A: App<S>>(
         &mut self,
         alloc: Global,
-        settings: &Settings,
+        service: &Service<A>,
         now: u64,
         piece: &mut [u8],
         spills: &mut P,
     ) -> Option<Ending>
         requires room { 0 < length piece.old }
-        requires positive { ArePositive settings.now.limits }
+        requires usable { IsUsable service.now.settings }
         requires unclosed { (self.old.closing && (self.old.sent == length self.old.output.items)) ≡ false }
-        requires serving { IsServing L.tells S.tells settings.now self.old.peer (L.state self.old.link) self.old.stream self.old.output.items self.old.sent self.old.closing }
-        ensures goes_on { result ≡ None → IsServing L.tells S.tells settings.now self.new.peer (L.state self.new.link) self.new.stream self.new.output.items self.new.sent self.new.closing }
-        ensures leaves { IsTrue L.tells → IsTrue S.tells → StepLeaves settings.now self.new.peer result (L.state self.new.link) }
+        requires serving { IsServing L.tells (S.tells && A.tells)
+            (server_with service.now.settings (A.script service.now.app))
+            self.old.peer (L.state self.old.link) self.old.stream self.old.output.items
+            self.old.sent self.old.closing }
+        ensures goes_on { result ≡ None → IsServing L.tells (S.tells && A.tells)
+            (server_with service.now.settings (A.script service.now.app))
+            self.new.peer (L.state self.new.link) self.new.stream self.new.output.items
+            self.new.sent self.new.closing }
+        ensures leaves { IsTrue L.tells → IsTrue (S.tells && A.tells) → StepLeaves
+            (server_with service.now.settings (A.script service.now.app))
+            self.new.peer result (L.state self.new.link) }
         ensures moment { IsTrue L.tells → IsNewAt now (L.state self.old.link) (L.state self.new.link) }
         ensures faults { StepFaults result (L.faults self.old.link) (L.faults self.new.link) }
         ensures spills { StepSpills result (P.faults spills.old) (P.faults spills.new) }
+        ensures broken { StepBreaks A.Run.faults result }
         ensures made { L.plan self.new.link ≡ L.plan self.old.link }
         ensures peer { self.new.peer ≡ self.old.peer }
         ensures room { length piece.new ≡ length piece.old }
     {
         if self.is_sent() {
-            self.receive(alloc, settings, now, piece, spills)
+            self.receive(alloc, service, now, piece, spills)
         } else {
-            self.send(settings, now)
+            self.send(service, now)
         }
     }
 }

@@ -11,6 +11,7 @@ pub(crate) enum Ending {
     Done,
     LinkFault,
     SpillFault,
+    AppFault,
     NoMemory,
 }
 
@@ -39,6 +40,7 @@ pub(crate) fn end_for(outcome: Outcome) -> End
         Outcome::Over(Ending::Done) => End::Done,
         Outcome::Over(Ending::LinkFault) => End::LinkFault,
         Outcome::Over(Ending::SpillFault) => End::SpillFault,
+        Outcome::Over(Ending::AppFault) => End::AppFault,
         Outcome::Over(Ending::NoMemory) => End::NoMemory,
         Outcome::Stopped | Outcome::PollFailed => End::ShutDown,
     }

@@ -1,36 +1,44 @@
 //! The loop of turns: one connection after the other.
 ghost use Rattle.std.specs.Prelude.{◌≡◌, ◌≤◌, ◌&&◌, IsTrue};
-ghost use Rattle.request_stream.specs.Reading.{ArePositive};
+ghost use Rattle.waitress_serve.specs.Connection.{HasBroken, UnlessStopped};
 ghost use Rattle.waitress_serve.specs.Headline.{EntryHolds};
-ghost use Rattle.waitress_serve.specs.Output.{responses, has_closed};
-ghost use Rattle.waitress_serve.specs.Serving.{GoingPolls, GoingStops, Served};
+ghost use Rattle.waitress_serve.specs.Output.{responses, has_closed, server_with};
+ghost use Rattle.waitress_serve.specs.Serving.{GoingPolls, GoingStops, Served, going_is_stop};
+ghost use Rattle.waitress_serve.specs.Settings.{IsUsable};
 
 use crate::outcome::Going;
+use crate::service::Service;
 use crate::serving_one::serve_one;
-use crate::settings::Settings;
 use outside::{Net, NetFault, Spills};
 use std::alloc::Global;
 use std::sync::Wait;
+use wsgi::App;
 
 /// Makes turns until a poll tells to stop, the net fails or memory is refused.
-pub(crate) fn serve<W: Wait, N: Net, P: Spills>(
+pub(crate) fn serve<W: Wait, N: Net, P: Spills, A: App<P::Spill>>(
     rt: &W,
     alloc: Global,
-    settings: &Settings,
+    service: &Service<A>,
     net: &mut N,
     spills: &mut P,
 ) -> Going
-    requires { ArePositive settings.now.limits }
+    requires usable { IsUsable service.now.settings }
     ensures bind { N.bind_faults net.new ≡ N.bind_faults net.old }
     ensures polls { GoingPolls result (N.poll_faults net.old) (N.poll_faults net.new) }
     ensures stops { IsTrue N.tells → GoingStops result (N.state net.old) (N.state net.new) }
+    ensures unstopped { IsTrue N.tells → UnlessStopped (going_is_stop result)
+        (N.state net.old).stopped (N.state net.new).stopped }
     ensures plan { N.plan net.new ≡ N.plan net.old }
     ensures spills { P.faults spills.old ≤ P.faults spills.new }
     ensures served { IsTrue N.tells → Served
-        (EntryHolds (N.Link.tells && P.Spill.tells) N.Link.state N.Link.faults (N.state net.new)
-        (responses settings.now) (has_closed settings.now) ⊥)
-        (EntryHolds (N.Link.tells && P.Spill.tells) N.Link.state N.Link.faults (N.state net.new)
-        (responses settings.now) (has_closed settings.now) (Unit {0}))
+        (EntryHolds (N.Link.tells && (P.Spill.tells && A.tells)) N.Link.state N.Link.faults (N.state net.new)
+        (responses (server_with service.now.settings (A.script service.now.app)))
+        (has_closed (server_with service.now.settings (A.script service.now.app)))
+        ⊥ (HasBroken A.Run.faults))
+        (EntryHolds (N.Link.tells && (P.Spill.tells && A.tells)) N.Link.state N.Link.faults (N.state net.new)
+        (responses (server_with service.now.settings (A.script service.now.app)))
+        (has_closed (server_with service.now.settings (A.script service.now.app)))
+        (Unit {0}) (HasBroken A.Run.faults))
         N.Link.plan (P.faults spills.old) (P.faults spills.new) (N.state net.old) (N.state net.new) }
 {
     let mut wants = Vec::new(alloc);
@@ -45,7 +53,7 @@ pub(crate) fn serve<W: Wait, N: Net, P: Spills>(
         }
         match net.accept(alloc, turn.now) {
             Ok(Some((link, peer))) => {
-                match serve_one(rt, alloc, settings, net, &mut wants, spills, link, peer) {
+                match serve_one(rt, alloc, service, net, &mut wants, spills, link, peer) {
                     Some(going) => return going,
                     None => {}
                 }

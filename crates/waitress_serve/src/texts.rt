@@ -1,15 +1,14 @@
-//! What is printed.
-ghost use Rattle.std.specs.Prelude.{◌≡◌, ◌++◌, IsTrue, OnOk};
-ghost use Rattle.outside.specs.Causes.{HasCause};
-ghost use Rattle.waitress_serve.specs.Reports.{Reports, status_of};
-ghost use Rattle.waitress_serve.specs.Status.{WritesPart, default_listen, serving_lines, report_text};
+//! What is reported to `err`.
+ghost use Rattle.std.specs.Prelude.{◌≡◌, ◌≤◌, ◌⊎◌, IfOk, IsTrue, Err as failed};
+ghost use Rattle.adjust.specs.Texts.{fault_text_of};
+ghost use Rattle.waitress_serve.specs.Reports.{Unwritten, Writes, Written, status_of};
+ghost use Rattle.waitress_serve.specs.Status.{Reading, line_of, may_report, report_text};
 
-use outside::{Failed, Sink};
+use adjust::{UsageFault, fault_text};
+use outside::Sink;
+use std::alloc::{AllocError, Global};
 
-/// What is printed before serving.
-const SERVING: &[u8] = b"Serving on http://0.0.0.0:8080\n";
-
-/// Why the program ends with a text.
+/// Why the program ends with a text, where the words are no fault.
 #[derive(Clone, Copy, Debug, PartialEq, Eq)]
 pub(crate) enum Fault {
     NotBuilt,
@@ -23,19 +22,20 @@ impl Fault {
         ensures { result ≡ status_of self }
     {
         match self {
-            Fault::NotBuilt => 1,
+            Fault::NotBuilt => 2,
             Fault::BindFailed => 3,
             Fault::PollFailed => 4,
             Fault::NoMemory => 5,
         }
     }
 
+    // The text is that of any words.
     #[tactic(auto, unfolding(crate::specs::Status::report_text))]
     fn text(self) -> &'static [u8]
-        ensures { result.now ≡ report_text (status_of self) }
+        ensures { (asked : Reading) → result.now ≡ report_text asked (status_of self) }
     {
         match self {
-            Fault::NotBuilt => b"waitress-serve: not built\n",
+            Fault::NotBuilt => b"waitress-serve: the application could not be made: not built\n",
             Fault::BindFailed => b"waitress-serve: bind failed\n",
             Fault::PollFailed => b"waitress-serve: poll failed\n",
             Fault::NoMemory => b"waitress-serve: out of memory\n",
@@ -45,8 +45,11 @@ impl Fault {
 
 /// Writes the text of a fault, and answers its status, or 6 where the text cannot be written.
 pub(crate) fn report<C: Sink>(err: &mut C, fault: Fault) -> u8
-    ensures { Reports C.tells (status_of fault) result
-        (C.faults err.old) (C.faults err.new) (C.written err.old) (C.written err.new) }
+    ensures later { C.faults err.old ≤ C.faults err.new }
+    ensures status { Written (status_of fault) result (C.faults err.old) (C.faults err.new)
+        ⊎ Unwritten result (C.faults err.old) (C.faults err.new) }
+    ensures text { (asked : Reading) → IsTrue (may_report asked (status_of fault)) → IsTrue C.tells →
+        Writes asked result (C.written err.old) (C.written err.new) }
 {
     match err.write(fault.text()) {
         Ok(()) => fault.status(),
@@ -54,13 +57,32 @@ pub(crate) fn report<C: Sink>(err: &mut C, fault: Fault) -> u8
     }
 }
 
-/// Prints where the server listens.
-pub(crate) fn announce<C: Sink>(out: &mut C) -> Result<(), Failed>
-    ensures cause { HasCause (C.faults out.old) (C.faults out.new) result }
-    ensures whole { IsTrue C.tells → OnOk result
-        (C.written out.new ≡ C.written out.old ++ serving_lines default_listen) }
-    ensures part { IsTrue C.tells →
-        WritesPart (serving_lines default_listen) (C.written out.old) (C.written out.new) }
+// The line that tells what is wrong with the words.
+fn usage_line(alloc: Global, fault: &UsageFault) -> Result<Vec<u8>, AllocError>
+    ensures { IfOk result (λ line. line.items ≡ line_of (fault_text_of fault.now)) }
 {
-    out.write(SERVING)
+    let text = fault_text(alloc, fault)?;
+    let mut line = Vec::from_slice(alloc, b"waitress-serve: ")?;
+    line.extend_from_slice(text.as_slice())?;
+    line.extend_from_slice(b"\n")?;
+    Ok(line)
+}
+
+/// Writes what is wrong with the words, and answers 1; or reports that memory was refused for the
+/// text, or answers 6 where it cannot be written.
+pub(crate) fn report_usage<C: Sink>(alloc: Global, err: &mut C, fault: &UsageFault) -> u8
+    ensures later { C.faults err.old ≤ C.faults err.new }
+    ensures status { Written 1 result (C.faults err.old) (C.faults err.new)
+        ⊎ Written 5 result (C.faults err.old) (C.faults err.new)
+        ⊎ Unwritten result (C.faults err.old) (C.faults err.new) }
+    ensures text { IsTrue C.tells →
+        Writes (failed fault.now) result (C.written err.old) (C.written err.new) }
+{
+    let Ok(line) = usage_line(alloc, fault) else {
+        return report(err, Fault::NoMemory);
+    };
+    match err.write(line.as_slice()) {
+        Ok(()) => 1,
+        Err(_) => 6,
+    }
 }

@@ -1,6 +1,6 @@
 //! Waiting until one link is ready.
 ghost use Rattle.std.specs.Prelude.{◌≡◌, IsTrue};
-ghost use Rattle.waitress_serve.specs.Connection.{OnlyPolls, ReadyNow, WaitPolls, WaitStops};
+ghost use Rattle.waitress_serve.specs.Connection.{OnlyPolls, ReadyNow, UnlessStopped, WaitPolls, WaitStops, wait_is_stop};
 
 use outside::{Net, Want};
 
@@ -20,6 +20,8 @@ pub(crate) fn wait_for<N: Net>(net: &mut N, wants: &mut Vec<Want>, want: Want) -
     ensures bind { N.bind_faults net.new ≡ N.bind_faults net.old }
     ensures polls { WaitPolls result (N.poll_faults net.old) (N.poll_faults net.new) }
     ensures stops { IsTrue N.tells → WaitStops result (N.state net.old) (N.state net.new) }
+    ensures unstopped { IsTrue N.tells → UnlessStopped (wait_is_stop result)
+        (N.state net.old).stopped (N.state net.new).stopped }
     ensures ready { IsTrue N.tells → ReadyNow result (N.state net.new) }
     ensures kept { IsTrue N.tells → OnlyPolls (N.state net.old) (N.state net.new) }
     ensures plan { N.plan net.new ≡ N.plan net.old }

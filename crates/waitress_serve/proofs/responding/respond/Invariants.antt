@@ -1,6 +1,6 @@
 use Rattle.std.proofs.Common.{map, IsTrue, Bool, List, ℕ}
 use Rattle.request_stream.specs.Asks.{asks}
-use Rattle.waitress_serve.specs.Output.{answers_for}
+use Rattle.waitress_serve.specs.Output.{answers_for, server_with}
 use Rattle.waitress_serve.specs.Responding.{RespondsAll}
 use Rattle.waitress_serve.proofs.responding.respond.Given as goal
 
@@ -9,6 +9,6 @@ abbrev pub invariant-loop-unit : goal.invariant-loop-unit
 invariant-loop-unit g l = record {
   can : (goal.iterator-loop-unit g).can_next l.unit-iterator;
   ends : (goal.iterator-loop-unit g).is_finite l.unit-iterator;
-  rest : IsTrue g.S.Spill.tells → (closes : Bool) (new : List ℕ) → RespondsAll (answers_for l.settings l.peer (map asks l.unit-iterator.rest.items)) closes l.output.items new →
-      RespondsAll (answers_for l.settings l.peer (map asks l.fn.units.items)) closes l.initial.output.items new;
+  rest : IsTrue g.A.App.tells → (closes : Bool) (new : List ℕ) → RespondsAll (answers_for (server_with l.service.settings (g.A.App.script l.service.app)) l.peer (map asks l.unit-iterator.rest.items)) closes l.output.items new →
+      RespondsAll (answers_for (server_with l.service.settings (g.A.App.script l.service.app)) l.peer (map asks l.fn.units.items)) closes l.initial.output.items new;
 }

@@ -1,0 +1,17 @@
+//! How a command ended.
+use adjust::UsageFault;
+
+/// How a command ended, which the status of the program tells.
+#[derive(Debug, Drop)]
+pub(crate) enum Conclusion {
+    Done,
+    /// The words are a usage fault.
+    Usage(UsageFault),
+    /// What the words ask for isn't built.
+    NotBuilt,
+    BindFailed,
+    /// What is to be printed could not be written to `out`.
+    Unprinted,
+    PollFailed,
+    NoMemory,
+}
