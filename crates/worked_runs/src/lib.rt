@@ -7,10 +7,14 @@
 #[cfg(test)]
 mod buffers;
 #[cfg(test)]
-mod echoes;
+mod case;
 #[cfg(test)]
-mod environs;
+mod connections;
+#[cfg(test)]
+mod echoes;
 #[cfg(test)]
 mod kinds;
 #[cfg(test)]
-mod runs;
+mod texts;
+#[cfg(test)]
+mod words;
