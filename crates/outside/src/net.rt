@@ -74,7 +74,9 @@ pub trait Net {
         ensures keys { (key : ℕ) → taken self.old key → taken self.new key };
 
     /// Waits, for at most a second, until one of the wants may be met or, where
-    /// `accepting`, somebody comes. The moment of a turn is in seconds since 1970.
+    /// `accepting`, somebody comes. A want that asks for neither reading nor writing says
+    /// that work is waiting which needs no bytes: a poll that is given one doesn't wait.
+    /// The moment of a turn is in seconds since 1970.
     fn poll(&mut self, wants: &mut Vec<Want>, accepting: bool) -> Result<Turn, Failed>
         ensures cause { HasCause (poll_faults self.old) (poll_faults self.new) result }
         ensures others { bind_faults self.new ≡ bind_faults self.old }
