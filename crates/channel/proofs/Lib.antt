@@ -1,0 +1,13 @@
+pub mod ActLemmas
+pub mod AnswerLemmas
+pub mod Calling
+pub mod Ending
+pub mod GoingOn
+pub mod Headline
+pub mod LeftTurns
+pub mod Opening
+pub mod RightTurns
+pub mod Seen
+pub mod SideLemmas
+pub mod StepLemmas
+pub mod Texts

@@ -1,0 +1,4 @@
+use Rattle.channel.proofs.lane.Lane.close.Goals as goal
+
+pub returns-clause-ends : goal.returns-clause-ends
+returns-clause-ends g c = rw (← c.self.view_is, ← c.into_inner.ensures) c.close.ensures.ends

@@ -1,0 +1,9 @@
+use Rattle.std.proofs.Common.{rules}
+use Rattle.channel.proofs.Seen.{asked_so}
+use Rattle.channel.proofs.near.Near.send_some.Goals as goal
+
+pub returns-clause-says : goal.returns-clause-says
+returns-clause-says g c = λ l r left. record {
+  asked = asked_so _ _ _ c.send.ensures.asked (search rules) (search rules);
+  says = c.send.ensures.says l r left;
+}

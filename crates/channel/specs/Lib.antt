@@ -1,0 +1,14 @@
+pub mod Output
+pub mod Owed
+pub mod State
+pub mod Histories
+pub mod Agreement
+pub mod Acting
+pub mod Writing
+pub mod Stopping
+pub mod Sides
+pub mod Turning
+pub mod Stepping
+pub mod Showing
+pub mod Views
+pub mod Happening

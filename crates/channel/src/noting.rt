@@ -1,0 +1,112 @@
+//! What a turn did, as it is told.
+use crate::acts::{LeftAct, RightAct};
+use crate::types::Cause;
+use outside::{End, Tells, Told};
+use request_stream::Unit;
+use std::collections::LinkedList;
+use std::snapshot::Snapshot;
+
+pub type LeftEntry<S> = Told<LinkedList<LeftAct<S>>>;
+
+pub type RightEntry<S> = Told<LinkedList<RightAct<S>>>;
+
+pub(crate) struct Looked;
+
+impl<S> Tells<(), LinkedList<LeftAct<S>>> for Looked {
+    ghost use Rattle.std.specs.Prelude.{[]};
+
+    ghost told = { λ _. [] };
+}
+
+impl<S> Tells<(), LinkedList<RightAct<S>>> for Looked {
+    ghost use Rattle.std.specs.Prelude.{[]};
+
+    ghost told = { λ _. [] };
+}
+
+pub(crate) struct Puts;
+
+impl<'a, S> Tells<(&'a Vec<Unit<S>>, u64), LinkedList<LeftAct<S>>> for Puts {
+    ghost use Rattle.std.specs.Prelude.{[], ◌∷◌};
+    ghost use Rattle.channel.specs.declared.acts.LeftAct.TheVariants.{Put};
+
+    ghost told = { λ x. Put x.0.now.items x.1 ∷ [] };
+}
+
+pub(crate) struct Drains;
+
+impl<'a, S> Tells<&'a [u8], LinkedList<LeftAct<S>>> for Drains {
+    ghost use Rattle.std.specs.Prelude.{[], ◌∷◌};
+    ghost use Rattle.channel.specs.declared.acts.LeftAct.TheVariants.{Drained};
+
+    ghost told = { λ x. Drained x.now ∷ [] };
+}
+
+pub(crate) struct Kills;
+
+impl<S> Tells<End, LinkedList<LeftAct<S>>> for Kills {
+    ghost use Rattle.std.specs.Prelude.{[], ◌∷◌};
+    ghost use Rattle.channel.specs.declared.acts.LeftAct.TheVariants.{Killed};
+
+    ghost told = { λ end. Killed end ∷ [] };
+}
+
+// A spill failed, and what broke is taken out at once.
+impl<S> Tells<End, LinkedList<LeftAct<S>>> for Breaks {
+    ghost use Rattle.std.specs.Prelude.{[], ◌∷◌};
+    ghost use Rattle.channel.specs.declared.acts.LeftAct.TheVariants.{Buried, Killed};
+
+    ghost told = { λ end. Killed end ∷ Buried ∷ [] };
+}
+
+// More acts of the same turn.
+pub(crate) struct Then;
+
+impl<S> Tells<(Snapshot<LeftEntry<S>>, Snapshot<LeftEntry<S>>), LinkedList<LeftAct<S>>> for Then {
+    ghost use Rattle.std.specs.Prelude.{◌++◌};
+
+    ghost told = { λ x. x.0.value.value ++ x.1.value.value };
+}
+
+impl<S> Tells<(Snapshot<RightEntry<S>>, Snapshot<RightEntry<S>>), LinkedList<RightAct<S>>>
+    for Then {
+    ghost use Rattle.std.specs.Prelude.{◌++◌};
+
+    ghost told = { λ x. x.0.value.value ++ x.1.value.value };
+}
+
+pub(crate) struct Buried;
+
+impl<S> Tells<(), LinkedList<LeftAct<S>>> for Buried {
+    ghost use Rattle.std.specs.Prelude.{[], ◌∷◌};
+    ghost use Rattle.channel.specs.declared.acts.LeftAct.TheVariants.{Buried};
+
+    ghost told = { λ _. Buried ∷ [] };
+}
+
+pub(crate) struct Begins;
+
+impl<S> Tells<Unit<S>, LinkedList<RightAct<S>>> for Begins {
+    ghost use Rattle.std.specs.Prelude.{[], ◌∷◌};
+    ghost use Rattle.channel.specs.declared.acts.RightAct.TheVariants.{Began};
+
+    ghost told = { λ unit. Began unit ∷ [] };
+}
+
+pub(crate) struct Written;
+
+impl<'a, S> Tells<(&'a [u8], Option<bool>), LinkedList<RightAct<S>>> for Written {
+    ghost use Rattle.std.specs.Prelude.{[], ◌∷◌};
+    ghost use Rattle.channel.specs.declared.acts.RightAct.TheVariants.{Wrote};
+
+    ghost told = { λ x. Wrote x.0.now x.1 ∷ [] };
+}
+
+pub(crate) struct Breaks;
+
+impl<S> Tells<Cause, LinkedList<RightAct<S>>> for Breaks {
+    ghost use Rattle.std.specs.Prelude.{[], ◌∷◌};
+    ghost use Rattle.channel.specs.declared.acts.RightAct.TheVariants.{Broke};
+
+    ghost told = { λ cause. Broke cause ∷ [] };
+}
