@@ -1,11 +1,11 @@
 //! The clock of a net.
-ghost use Rattle.std.specs.Prelude.{◌≡◌, ◌≤◌, ◌+◌, ◌-◌, ◌/◌, ◌<◌, ◌^◌, min, max};
-ghost use Rattle.net_real.specs.Moments.{moment_of};
+ghost use Rattle.std.specs.Prelude.{◌≡◌, ◌≤◌, ◌+◌, ◌-◌, ◌/◌, ◌<◌, ◌^◌, IsTrue};
+ghost use Rattle.net_real.specs.Moments.{moment_of, KeepsPace};
 
 use std::rt::Clock;
 use std::time::Duration;
 
-const SECOND: u64 = 1000000;
+const SECOND: u64 = 1000000000;
 
 // By which part of the time that passes the clock may be faster or slower than time.
 const PACE: u64 = 8;
@@ -17,14 +17,14 @@ const PACE: u64 = 8;
 /// So a timeout is off by no more than that, and the date finds back to the wall's.
 #[derive(Clone, Copy)]
 pub(super) struct SteadyClock {
-    // Microseconds since 1970.
+    // Nanoseconds since 1970, which fit until the year 2554.
     time: u64,
     // What the monotonic clock read then.
     read: u64,
 }
 
-fn micros(time: Duration) -> u64 {
-    u64::try_from(time.as_micros()).unwrap_or(u64::MAX)
+fn nanos(time: Duration) -> u64 {
+    u64::try_from(time.as_nanos()).unwrap_or(u64::MAX)
 }
 
 // Where the clock is once so much time has passed, beside a wall's clock that says this.
@@ -48,8 +48,8 @@ impl SteadyClock {
     /// A clock that says the wall's time.
     pub(super) fn new<R: Clock>(rt: &R) -> SteadyClock {
         SteadyClock {
-            time: rt.since_1970().map_or(0, micros),
-            read: rt.monotonic().map_or(0, micros),
+            time: rt.since_1970().map_or(0, nanos),
+            read: rt.monotonic().map_or(0, nanos),
         }
     }
 
@@ -60,21 +60,18 @@ impl SteadyClock {
         self.time / SECOND
     }
 
-    /// Goes on to now. Where nobody's time is measured it may leap forward to the wall's time, and
-    /// stands while it is ahead of it.
+    /// Goes on to now. Where nobody's time is measured it may leap forward to the wall's time.
     pub(super) fn go_on<R: Clock>(&mut self, rt: &R, measures: bool) -> u64
         ensures moment { result ≡ moment_of self.new }
         ensures later { moment_of self.old ≤ result }
+        ensures pace { IsTrue measures → KeepsPace self.old self.new }
     {
-        let read = rt.monotonic().map_or(self.read, micros).max(self.read);
+        let read = rt.monotonic().map_or(self.read, nanos).max(self.read);
         let passed = read - self.read;
         let steady = self.time.saturating_add(passed);
-        let wall = rt.since_1970().map_or(steady, micros);
-        self.time = if measures {
-            gone_on(self.time, passed, wall)
-        } else {
-            wall.max(self.time)
-        };
+        let wall = rt.since_1970().map_or(steady, nanos);
+        let time = gone_on(self.time, passed, wall);
+        self.time = if measures { time } else { time.max(wall) };
         self.read = read;
         self.moment()
     }

@@ -47,10 +47,10 @@ fn the_clock_never_goes_back_and_never_leaps_while_it_measures(rt: HostRuntime) 
         (10055, 106, true, 10055),
         // Where nothing is measured the wall's time is taken, but not back.
         (13663, 114, false, 13663),
-        (10071, 122, false, 13663),
+        (10071, 122, false, 13670),
         // The monotonic clock goes back.
-        (10079, 100, true, 13663),
-        (10087, 138, true, 13677),
+        (10079, 100, true, 13670),
+        (10087, 138, true, 13684),
     ];
     for (wall, ran, measures, moment) in rows {
         clocks.wall.set(wall);
