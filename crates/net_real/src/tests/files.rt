@@ -60,24 +60,24 @@ fn files_are_found_by_name(rt: HostRuntime) -> Result<(), Fail> {
 #[test]
 fn what_is_no_file_is_not_found(rt: HostRuntime) -> Result<(), Fail> {
     let alloc = rt.alloc();
-    fs::create_dir(&rt, "site")?;
-    fs::write(&rt, "site/a.txt", "hello")?;
-    symlink(&rt, "missing", "site/dangling")?;
-    symlink(&rt, "loop", "site/loop")?;
-    let socket = UnixListener::bind(&rt, "site/socket")?;
+    fs::create_dir(&rt, "odd")?;
+    fs::write(&rt, "odd/a.txt", "hello")?;
+    symlink(&rt, "missing", "odd/dangling")?;
+    symlink(&rt, "loop", "odd/loop")?;
+    let socket = UnixListener::bind(&rt, "odd/socket")?;
     let (reader, _writer) = io::pipe(&rt)?;
     let fifo = format!(in alloc; "/proc/self/fd/{}", reader.as_raw_fd())?;
     let tree = DiskTree::new(rt);
     let names = [
-        "site",
-        "site/x.txt",
-        "site/a.txt/x",
-        "site/dangling",
-        "site/loop",
-        "site/socket",
+        "odd",
+        "odd/x.txt",
+        "odd/a.txt/x",
+        "odd/dangling",
+        "odd/loop",
+        "odd/socket",
         "/dev/null",
         fifo.as_str(),
-        "site/a\0b",
+        "odd/a\0b",
         "",
     ];
     for name in names {

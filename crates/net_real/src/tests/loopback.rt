@@ -91,6 +91,16 @@ impl Loopback {
         self.poll_for(want(visit.link.key(), true, true))
     }
 
+    // Whether one of the next polls says that it may be read.
+    pub fn will_read(&mut self, visit: &Visit) -> Result<bool, Fail> {
+        for _ in 0..POLLS {
+            if self.may_read(visit)? {
+                return Ok(true);
+            }
+        }
+        Ok(false)
+    }
+
     // Whether a poll waited its second.
     pub fn waits(&mut self) -> Result<bool, Fail> {
         let start = Instant::now(&self.rt)?;
