@@ -6,8 +6,7 @@ ghost use Rattle.apps.specs.Echo.{echo_script, echo_start};
 ghost use Rattle.apps.specs.PieceLaws.{rest_is_counted};
 ghost use Rattle.apps.specs.Pieces.{count_of, rest_of};
 
-use crate::answers::field;
-use itoa::Buffer;
+use crate::answers::{field, length_field};
 use outside::{Bytes, Items, NoMemory, Spill};
 use spill_buffer::OverflowBuffer;
 use std::alloc::{AllocError, Global};
@@ -98,10 +97,9 @@ fn start(alloc: Global, environ: &Environ, length: u64) -> Result<Step, AllocErr
     let content_type = environ
         .get(b"CONTENT_TYPE")
         .unwrap_or(b"application/octet-stream");
-    let mut digits = Buffer::new();
     let mut fields = Vec::new(alloc);
     fields.push(field(alloc, b"Content-Type", content_type)?)?;
-    fields.push(field(alloc, b"Content-Length", digits.format(length).as_bytes())?)?;
+    fields.push(length_field(alloc, length)?)?;
     Ok(Step::Start {
         status: Bytes::from_slice(alloc, b"200 OK")?,
         fields: Items::from_vec(fields),

@@ -1,9 +1,19 @@
-//! The applications that need nothing of the outside. So far it is the one that gives the body of a
-//! request back.
+//! The applications that need nothing of the outside: the echo of a request's body, and a table of
+//! responses that a file declares in TOML.
 #![tactic(auto)]
 
 mod answers;
+mod document;
 mod echo;
+mod fault;
+mod reading;
+mod row;
+mod row_table;
+mod shared_row;
+mod table;
+mod values;
 
-pub use answers::field;
+pub use answers::{field, not_found_step, text_step, variable};
 pub use echo::{Echo, EchoRun};
+pub use fault::TableFault;
+pub use table::{TableApp, TableRun};
