@@ -12,7 +12,7 @@ length-chunks : (n k : ℕ) (xs : List ℕ) → length (first_chunks n k xs) ≡
 length-chunks n zero xs = refl
 length-chunks n (suc k) xs = ap (λ j. suc j) (length-chunks n k (drop n xs))
 
-length-pieces : (bytes : List ℕ) → length (pieces bytes) ≡ piece_count (length bytes)
+pub length-pieces : (bytes : List ℕ) → length (pieces bytes) ≡ piece_count (length bytes)
 length-pieces bytes =
     length-map (first_chunks 32768 (piece_count (length bytes)) bytes) (λ piece. Piece piece)
     ∙ length-chunks 32768 (piece_count (length bytes)) bytes

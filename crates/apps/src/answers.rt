@@ -10,6 +10,9 @@ use outside::{Bytes, Items};
 use std::alloc::{AllocError, Global};
 use wsgi::{Environ, Step};
 
+/// How many bytes a piece of a body has, but for the last one.
+pub const PIECE_SIZE: u64 = 32768;
+
 /// A field of a response's head.
 pub fn field(alloc: Global, name: &[u8], value: &[u8]) -> Result<Field, AllocError>
     ensures { IfOk result (λ field. field ≡ record { name = name.now; value = value.now }) }

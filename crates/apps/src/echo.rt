@@ -6,13 +6,11 @@ ghost use Rattle.apps.specs.Echo.{echo_script, echo_start};
 ghost use Rattle.apps.specs.PieceLaws.{rest_is_counted};
 ghost use Rattle.apps.specs.Pieces.{count_of, rest_of};
 
-use crate::answers::{field, length_field};
+use crate::answers::{PIECE_SIZE, field, length_field};
 use outside::{Bytes, Items, NoMemory, Spill};
 use spill_buffer::OverflowBuffer;
 use std::alloc::{AllocError, Global};
 use wsgi::{App, AppRun, Environ, RunFault, Step};
-
-const PIECE_SIZE: u64 = 32768;
 
 /// Answers each request with its body.
 #[derive(Clone, Copy, Debug)]

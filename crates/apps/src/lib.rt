@@ -13,7 +13,7 @@ mod shared_row;
 mod table;
 mod values;
 
-pub use answers::{field, not_found_step, text_step, variable};
+pub use answers::{PIECE_SIZE, field, length_field, not_found_step, text_step, variable};
 pub use echo::{Echo, EchoRun};
 pub use fault::TableFault;
 pub use table::{TableApp, TableRun};
