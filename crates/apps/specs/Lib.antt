@@ -1,0 +1,9 @@
+pub mod Answers
+pub mod Echo
+pub mod PieceLaws
+pub mod Pieces
+pub mod Rows
+pub mod Table
+pub mod TableLaws
+pub mod TableScript
+pub mod Variables

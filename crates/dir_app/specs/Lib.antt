@@ -1,0 +1,10 @@
+pub mod Asked
+pub mod DirLaws
+pub mod DirScript
+pub mod FileLaws
+pub mod FileSteps
+pub mod Media
+pub mod MediaTable
+pub mod Names
+pub mod Run
+pub mod Texts
