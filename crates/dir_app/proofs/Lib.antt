@@ -1,4 +1,0 @@
-pub mod FileLemmas
-pub mod MediaLemmas
-pub mod NameLemmas
-pub mod TextLemmas
