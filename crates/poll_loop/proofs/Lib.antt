@@ -1,0 +1,14 @@
+pub mod Books
+pub mod Carrying
+pub mod Cases
+pub mod Coming
+pub mod Compose
+pub mod Ending
+pub mod Entries
+pub mod Leaving
+pub mod Polling
+pub mod Retired
+pub mod Shutting
+pub mod Sifting
+pub mod UpTo
+pub mod Working

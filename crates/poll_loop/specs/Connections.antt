@@ -1,0 +1,172 @@
+-- Internal: what the parts of a turn do to the connections.
+use Rattle.std.specs.Prelude.{◌≡◌, ◌≤◌, ◌<◌, ◌+◌, ℕ, Bool, true, false, IsTrue, List, [], ◌∷◌, ◌++◌, length, map, take, Option, None, Some, IsPermutation}
+use Rattle.std.specs.List.{list_any}
+use Rattle.channel.specs.Owed.{owed_by}
+use Rattle.channel.specs.Output.{Script}
+use Rattle.channel.specs.Views.{Telling}
+use Rattle.outside.specs.Causes.{Rose}
+use Rattle.outside.specs.Link.{opened}
+use Rattle.outside.specs.Net.{NetState, asked_of, last_moment}
+use Rattle.outside.specs.declared.retired.Retired.{Retired}
+use Rattle.outside.specs.declared.types.Peer.{Peer}
+use Rattle.outside.specs.declared.types.Want.{Want}
+use Rattle.poll_loop.specs.Accounts.{IsShutDown, retired_of}
+use Rattle.poll_loop.specs.Entries.{Grounds, IsTimely, IsWithin, Service}
+use Rattle.poll_loop.specs.Lists.{EachIs}
+use Rattle.poll_loop.specs.NoIdle.{Answers, Nudges}
+use Rattle.poll_loop.specs.Seat.{Eyes, SeatRests, is_open}
+use Rattle.poll_loop.specs.Settings.{fixed_by}
+use Rattle.poll_loop.specs.declared.connections.Came.{Came}
+use Rattle.poll_loop.specs.declared.connections.Came.TheVariants as came
+use Rattle.poll_loop.specs.declared.seat.Mark.{Mark}
+use Rattle.poll_loop.specs.declared.seat.Mark.TheVariants as mark
+use Rattle.poll_loop.specs.declared.seat.Seat.{Seat}
+use Rattle.poll_loop.specs.declared.settings.ServeFault.{ServeFault}
+use Rattle.poll_loop.specs.declared.settings.ServeFault.TheVariants as fault
+use Rattle.poll_loop.specs.declared.settings.Settings.{Settings}
+
+-- ---- by what connections are judged
+
+-- what a server with these settings and this application serves by
+abbrev pub service_by : {A : Type 0} → Telling → (A → Script) → Settings → A → Service
+service_by tells script settings app = record {
+  tells = tells;
+  timeout = settings.window.timeout;
+  owed = λ peer x. owed_by script (fixed_by settings app peer) x;
+}
+
+-- some run has failed to reach what it reads or writes
+abbrev pub HasBroken : {R : Type 0} → (R → ℕ) → Type 0
+HasBroken {R} faults = (run : R) × (0 < faults run)
+
+-- nobody is shut down while serving goes on
+abbrev pub going_on : Type 0 → Grounds
+going_on broke = record { shutdown = ⊥; broke = broke }
+
+abbrev pub shutting_down : Type 0 → Grounds
+shutting_down broke = record { shutdown = Unit {0}; broke = broke }
+
+-- ---- the seats
+
+-- who has a seat, by peer and plan
+abbrev pub seated : {L P A S R : Type 0} → Eyes L P → List (Seat L A S P R) → List (Peer × P)
+seated e seats = map (λ seat. (seat.lane.peer, e.plan seat.lane.link)) seats
+
+abbrev pub is_kept : {L P A S R : Type 0} → Seat L A S P R → Bool
+is_kept seat = is_open seat.mark
+
+-- its channel was opened by these settings and this application
+abbrev pub IsOpenedBy : {L P A S R : Type 0} → Settings → A → Seat L A S P R → Type 0
+IsOpenedBy settings app seat = seat.lane.fixed ≡ fixed_by settings app seat.lane.peer
+
+-- what came on its link, and the last touch, are of moments of the net
+abbrev pub SeatIsTimely : {L P A S R : Type 0} → Eyes L P → NetState L P → Seat L A S P R → Type 0
+SeatIsTimely e net seat = IsTrue e.tells → IsTimely net (e.state seat.lane.link)
+
+-- ---- counts
+
+-- how many came and went, where that is limited
+abbrev pub Counted : Option ℕ → ℕ → ℕ → ℕ → Type 0
+Counted None accepted retired open' = Unit {0}
+Counted (Some limit) accepted retired open' = (accepted ≤ limit) × (retired + open' ≡ accepted)
+
+-- so many more came, where that is limited
+abbrev pub CameMore : Option ℕ → ℕ → ℕ → ℕ → ℕ → Type 0
+CameMore None before now given given' = Unit {0}
+CameMore (Some limit) before now given given' = now + given ≡ before + given'
+
+-- ---- the net
+
+-- nothing was polled
+pub record SamePolls {L P : Type 0} (old new : NetState L P) : Type 0 where
+  pub polls : new.polls ≡ old.polls
+  pub stopped : new.stopped ≡ old.stopped
+  pub first : new.first ≡ old.first
+  pub last : new.last ≡ old.last
+
+-- only retire was called
+pub record OnlyRetires {L P : Type 0} (old new : NetState L P) : Type 0 where
+  pub same : new ≡ record old { closed = new.closed; live = new.live }
+  pub fewer : new.live ≤ old.live
+
+-- a poll or accept failed, or memory was refused
+abbrev pub FaultCause : Option ServeFault → ℕ → ℕ → Type 0
+FaultCause (Some fault.Net) before now = Rose before now
+FaultCause (Some fault.NoMemory) before now = now ≡ before
+FaultCause None before now = now ≡ before
+
+-- ---- accepting
+
+-- connections came and have seats
+pub record Takes {L P A S R : Type 0} (e : Eyes L P) (settings : Settings) (app : A) (now : ℕ)
+    (olds news : List (Seat L A S P R)) : Type 0 where
+  pub came : List (Seat L A S P R)
+  pub are : news ≡ olds ++ came
+  pub rest : EachIs (SeatRests e settings.window) came
+  pub by : EachIs (IsOpenedBy settings app) came
+  pub opened : EachIs (λ seat. IsTrue e.tells → e.state seat.lane.link ≡ opened now) came
+
+-- one more connection has a seat
+pub record SeatsOne {L P A S R : Type 0} (e : Eyes L P) (settings : Settings) (app : A) (now : ℕ) (link : L)
+    (peer : Peer) (olds news : List (Seat L A S P R)) : Type 0 where
+  pub seat : Seat L A S P R
+  pub are : news ≡ olds ++ seat ∷ []
+  pub link_is : seat.lane.link ≡ link
+  pub peer_is : seat.lane.peer ≡ peer
+  pub rests : SeatRests e settings.window seat
+  pub by : IsOpenedBy settings app seat
+
+-- the net was asked: a connection came, or it put off
+abbrev pub CameBy : {L P : Type 0} → Came → NetState L P → NetState L P → Type 0
+CameBy came.One old new = Rose old.asked new.asked × (length old.given < length new.given)
+CameBy came.Nobody old new = Rose old.asked new.asked × Rose old.put_off new.put_off
+CameBy came.Failed old new = Unit {0}
+CameBy came.NoMemory old new = Unit {0}
+
+-- the same of all that came in a turn
+abbrev pub CameAll : {L P : Type 0} → Came → NetState L P → NetState L P → Type 0
+CameAll came.One old new = Answers old new
+CameAll came.Nobody old new = Answers old new
+CameAll came.Failed old new = Unit {0}
+CameAll came.NoMemory old new = Unit {0}
+
+-- the count of poll and accept rises only where accept failed
+abbrev pub CameCause : Came → ℕ → ℕ → Type 0
+CameCause came.Failed before now = Rose before now
+CameCause came.One before now = now ≡ before
+CameCause came.Nobody before now = now ≡ before
+CameCause came.NoMemory before now = now ≡ before
+
+-- ---- shutting down
+
+-- Those that were open were shut down, and nothing else was done.
+pub record ShutsDown {L P : Type 0} (Holds : Retired L → Type 0) (plan : L → P) (who : List (Peer × P)) (old new : NetState L P) : Type 0 where
+  pub entries : List (Retired L)
+  pub state : new ≡ record old { closed = old.closed ++ entries; live = new.live }
+  pub each : EachIs Holds entries
+  pub shut : EachIs IsShutDown entries
+  pub same : IsPermutation who (retired_of plan entries)
+  pub live : new.live + length entries ≡ old.live
+
+-- ---- a turn
+
+abbrev pub works : Mark → Bool
+works mark.Works = true
+works mark.Rests = false
+works (mark.Over end) = false
+
+-- the wants of all, and one that asks nothing where one of them has a step to make
+pub record Gathers {L A S P R : Type 0} (seats : List (Seat L A S P R)) (wants : List Want) : Type 0 where
+  pub nudge : List Want
+  pub are : wants ≡ map (λ seat. seat.want) seats ++ nudge
+  pub nudges : Nudges (list_any (λ seat. works seat.mark) seats) nudge
+
+-- this is the moment of the last turn, and lies behind the first
+pub record IsNow {L P : Type 0} (net : NetState L P) (now : ℕ) : Type 0 where
+  pub last : last_moment net.last ≡ now
+  pub within : IsWithin net now
+
+-- the first so many wants are those of the seats, as a poll left them
+pub record IsAsked {L A S P R : Type 0} (seats : List (Seat L A S P R)) (asked : ℕ) (wants : List Want) : Type 0 where
+  pub all : asked ≡ length seats
+  pub asks : map asked_of (take asked wants) ≡ map (λ seat. asked_of seat.want) seats

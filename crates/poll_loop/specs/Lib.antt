@@ -1,0 +1,9 @@
+pub mod Settings
+pub mod Lists
+pub mod Seat
+pub mod Entries
+pub mod Accounts
+pub mod NoIdle
+pub mod Connections
+pub mod Server
+pub mod Retiring

@@ -1,0 +1,105 @@
+//! Turns, one after the other.
+ghost use Rattle.std.specs.Prelude.{◌≡◌, ◌≢◌, ◌≤◌, IsTrue, Ok, false, length};
+ghost use Rattle.channel.specs.Views.{telling};
+ghost use Rattle.poll_loop.specs.Accounts.{Accounts, LastKnows, ServeCause, ServeEnds, Served};
+ghost use Rattle.poll_loop.specs.Connections.{CameMore, HasBroken, going_on, service_by, shutting_down};
+ghost use Rattle.poll_loop.specs.Entries.{EntryHolds};
+ghost use Rattle.poll_loop.specs.NoIdle.{Hosts, NoIdle};
+ghost use Rattle.poll_loop.specs.Seat.{eyes};
+ghost use Rattle.poll_loop.specs.Server.{Stands, booked, serving};
+ghost use Rattle.poll_loop.specs.declared.settings.Going.TheVariants as going;
+
+use crate::retiring::shut_down;
+use crate::server::Server;
+use crate::settings::{Going, ServeFault};
+use outside::{Net, Spills};
+use std::sync::Wait;
+use wsgi::App;
+
+impl<'a, N: Net, A: App<P::Spill>, P: Spills> Server<'a, N, A, P> {
+    /// Makes one turn: polls once, accepts, reads what is ready, makes steps and sends at once what they
+    /// wrote, makes the idle check where it is due, and retires what is over. Where it doesn't answer
+    /// `On`, everything that was open is retired.
+    pub fn turn(&mut self, net: &mut N, spills: &mut P) -> Result<Going, ServeFault>
+        requires stands { Stands (eyes N.Link.tells N.Link.state N.Link.faults N.Link.key N.Link.plan) A.Run.faults self.old }
+        requires hosts { IsTrue N.tells → Hosts (eyes N.Link.tells N.Link.state N.Link.faults N.Link.key N.Link.plan) (N.state net.old) (serving self.old).open' }
+        ensures no_idle { result ≡ Ok going.On → IsTrue N.tells → IsTrue N.Link.tells →
+            NoIdle (eyes N.Link.tells N.Link.state N.Link.faults N.Link.key N.Link.plan) (serving self.old) (serving self.new) (N.state net.old) (N.state net.new) }
+        ensures goes_on { result ≡ Ok going.On → IsTrue N.tells → Accounts
+            (EntryHolds (service_by (telling N.Link.tells P.Spill.tells A.tells) A.script (serving self.old).settings (serving self.old).app)
+            (going_on (HasBroken A.Run.faults)) N.Link.state N.Link.faults)
+            N.Link.plan
+            (booked (eyes N.Link.tells N.Link.state N.Link.faults N.Link.key N.Link.plan) (N.state net.old) (P.faults spills.old) (serving self.old))
+            (booked (eyes N.Link.tells N.Link.state N.Link.faults N.Link.key N.Link.plan) (N.state net.new) (P.faults spills.new) (serving self.new)) }
+        ensures knows { result ≡ Ok going.On → IsTrue N.tells → LastKnows (N.state net.new) }
+        ensures still { IsTrue N.tells → LastKnows (N.state net.old) → LastKnows (N.state net.new) }
+        ensures came_more { result ≡ Ok going.On → IsTrue N.tells → CameMore (serving self.old).settings.serve_limit
+            (serving self.old).accepted (serving self.new).accepted (length (N.state net.old).given) (length (N.state net.new).given) }
+        ensures unstopped { result ≡ Ok going.On → IsTrue N.tells → (N.state net.new).stopped ≡ false }
+        ensures served { result ≢ Ok going.On → IsTrue N.tells → Served result
+            (EntryHolds (service_by (telling N.Link.tells P.Spill.tells A.tells) A.script (serving self.old).settings (serving self.old).app)
+            (going_on (HasBroken A.Run.faults)) N.Link.state N.Link.faults)
+            (EntryHolds (service_by (telling N.Link.tells P.Spill.tells A.tells) A.script (serving self.old).settings (serving self.old).app)
+            (shutting_down (HasBroken A.Run.faults)) N.Link.state N.Link.faults)
+            N.Link.plan
+            (booked (eyes N.Link.tells N.Link.state N.Link.faults N.Link.key N.Link.plan) (N.state net.old) (P.faults spills.old) (serving self.old))
+            (booked (eyes N.Link.tells N.Link.state N.Link.faults N.Link.key N.Link.plan) (N.state net.new) (P.faults spills.new) (serving self.new)) }
+        ensures hosts { result ≡ Ok going.On → IsTrue N.tells → Hosts (eyes N.Link.tells N.Link.state N.Link.faults N.Link.key N.Link.plan) (N.state net.new) (serving self.new).open' }
+        ensures ends { IsTrue N.tells → ServeEnds result (serving self.old).settings.serve_limit (serving self.old).accepted
+            (N.state net.old) (N.state net.new) }
+        ensures cause { ServeCause result (N.poll_faults net.old) (N.poll_faults net.new) }
+        ensures settings { (serving self.new).settings ≡ (serving self.old).settings }
+        ensures app { (serving self.new).app ≡ (serving self.old).app }
+        ensures bind { N.bind_faults net.new ≡ N.bind_faults net.old }
+        ensures plan { N.plan net.new ≡ N.plan net.old }
+        ensures spills { P.faults spills.old ≤ P.faults spills.new }
+        ensures stands { Stands (eyes N.Link.tells N.Link.state N.Link.faults N.Link.key N.Link.plan) A.Run.faults self.new }
+    {
+        match self.step(net, spills) {
+            None => Ok(Going::On),
+            Some(why) => {
+                shut_down(&mut self.connections, self.app, self.settings, net, spills);
+                why.answer()
+            }
+        }
+    }
+
+    /// Makes turns until serving ends; then nothing is open.
+    pub fn serve<W: Wait>(
+        &mut self,
+        rt: &W,
+        net: &mut N,
+        spills: &mut P,
+    ) -> Result<Going, ServeFault>
+        requires stands { Stands (eyes N.Link.tells N.Link.state N.Link.faults N.Link.key N.Link.plan) A.Run.faults self.old }
+        requires hosts { IsTrue N.tells → Hosts (eyes N.Link.tells N.Link.state N.Link.faults N.Link.key N.Link.plan) (N.state net.old) (serving self.old).open' }
+        ensures ended { result ≢ Ok going.On }
+        ensures served { IsTrue N.tells → Served result
+            (EntryHolds (service_by (telling N.Link.tells P.Spill.tells A.tells) A.script (serving self.old).settings (serving self.old).app)
+            (going_on (HasBroken A.Run.faults)) N.Link.state N.Link.faults)
+            (EntryHolds (service_by (telling N.Link.tells P.Spill.tells A.tells) A.script (serving self.old).settings (serving self.old).app)
+            (shutting_down (HasBroken A.Run.faults)) N.Link.state N.Link.faults)
+            N.Link.plan
+            (booked (eyes N.Link.tells N.Link.state N.Link.faults N.Link.key N.Link.plan) (N.state net.old) (P.faults spills.old) (serving self.old))
+            (booked (eyes N.Link.tells N.Link.state N.Link.faults N.Link.key N.Link.plan) (N.state net.new) (P.faults spills.new) (serving self.new)) }
+        ensures ends { IsTrue N.tells → ServeEnds result (serving self.old).settings.serve_limit (serving self.old).accepted
+            (N.state net.old) (N.state net.new) }
+        ensures cause { ServeCause result (N.poll_faults net.old) (N.poll_faults net.new) }
+        ensures settings { (serving self.new).settings ≡ (serving self.old).settings }
+        ensures app { (serving self.new).app ≡ (serving self.old).app }
+        ensures bind { N.bind_faults net.new ≡ N.bind_faults net.old }
+        ensures plan { N.plan net.new ≡ N.plan net.old }
+        ensures spills { P.faults spills.old ≤ P.faults spills.new }
+        ensures stands { Stands (eyes N.Link.tells N.Link.state N.Link.faults N.Link.key N.Link.plan) A.Run.faults self.new }
+    {
+        for _ in rt.forever() {
+            match self.turn(net, spills) {
+                Ok(Going::On) => {}
+                Ok(Going::Stopped) => return Ok(Going::Stopped),
+                Ok(Going::LimitMet) => return Ok(Going::LimitMet),
+                Err(fault) => return Err(fault),
+            }
+        }
+        unreachable!()
+    }
+}
