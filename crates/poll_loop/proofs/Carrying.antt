@@ -1,5 +1,5 @@
 -- What a turn leaves behind its poll, put together from accepting and from the connections' parts.
-use Rattle.std.proofs.Common.{◌≡◌, ◌≤◌, ◌+◌, inl, inr, ℕ, true, false, IsTrue, List, [], ◌∷◌, Option, None, Some, refl, ap, sym, subst, ◌∙◌, arith, length, map, filter, nat_le, length-append}
+use Rattle.std.proofs.Common.{◌≡◌, ◌≤◌, ◌+◌, ◌⊎◌, inl, inr, ℕ, true, false, IsTrue, List, [], ◌∷◌, ◌++◌, Option, None, Some, refl, ap, sym, subst, ◌∙◌, arith, length, map, filter, nat_le, length-append}
 use Rattle.std.proofs.lemmas.List.{length-map}
 use Rattle.std.proofs.lemmas.List.Sorted.{length_permutation}
 use Rattle.outside.specs.Causes.{Rose}
@@ -11,17 +11,17 @@ use Rattle.outside.specs.declared.types.Turn.{Turn}
 use Rattle.outside.specs.declared.types.Want.{Want}
 use Rattle.channel.specs.Views.{View, is_late}
 use Rattle.poll_loop.specs.Accounts.{Accounts, Books, IsMet, LastKnows, books, retired_of}
-use Rattle.poll_loop.specs.Connections.{CameMore, Counted, OnlyRetires, SamePolls, SeatIsTimely, Takes, is_kept, seated}
+use Rattle.poll_loop.specs.Connections.{AcceptsAll, CameMore, Counted, OnlyRetires, SamePolls, SeatIsTimely, Takes, is_kept, seated}
 use Rattle.poll_loop.specs.Entries.{IsWithin}
 use Rattle.poll_loop.specs.Lists.{EachIs}
-use Rattle.poll_loop.specs.NoIdle.{Answers, Hosts, Serving, checked_by, views}
+use Rattle.poll_loop.specs.NoIdle.{Answers, Hosts, Serving, checked_after, checked_by, views}
 use Rattle.poll_loop.specs.Seat.{Eyes, Labours, SeatRests, viewed}
 use Rattle.poll_loop.specs.Server.{Carries}
 use Rattle.poll_loop.specs.Settings.{is_below}
 use Rattle.poll_loop.specs.declared.seat.Seat.{Seat}
 use Rattle.poll_loop.specs.declared.settings.Settings.{Settings}
 use Rattle.poll_loop.proofs.Books.{each_append}
-use Rattle.poll_loop.proofs.Cases.{Turned, turned}
+use Rattle.poll_loop.proofs.Cases.{Turned, news_by, turned}
 use Rattle.poll_loop.proofs.Working.{fewer, hosts_seats, map_length, map_twice, room_after, timely_goes_on}
 
 -- as many were open or came as were retired or are open
@@ -114,6 +114,16 @@ answers_on Holds plan old mid new a r h = (
   ],
 )
 
+-- so many came as there is room for, counted by those that came since
+until_on : {L P : Type 0} (settings : Settings) (n n' accepted accepted' : ℕ) (since : List (Peer × P)) (old mid new : NetState L P) → n' ≡ n → accepted' ≡ accepted → mid.given ≡ old.given ++ since →
+    OnlyRetires mid new → AcceptsAll settings n accepted old mid →
+    Rose old.put_off new.put_off ⊎ ((settings.connection_limit ≤ n' + length since) ⊎ (is_below settings.serve_limit accepted' ≡ false))
+until_on settings n n' accepted accepted' since old mid new same count given r h = elim h [
+  | inl p ↦ inl (subst (λ k. Rose old.put_off k) (sym (ap (λ s. s.put_off) r.same)) p)
+  | inr (inl q) ↦ inr (inl (let g = ap length given in let g' = length-append old.given since in omega (arith, q, g, g', same)))
+  | inr (inr b) ↦ inr (inr (ap (is_below settings.serve_limit) count ∙ b))
+]
+
 -- ---- a turn behind its poll
 
 each_lane : {L P A S R : Type 0} (e : Eyes L P) (Q : View → Type 0) (seats : List (Seat L A S P R)) → EachIs (λ s. Q (viewed e s.lane)) seats → EachIs Q (map (viewed e) (map (λ seat. seat.lane) seats))
@@ -131,13 +141,15 @@ module _ {L P A S R : Type 0} (Holds : NetState L P → Retired L → Type 0) (e
       Labours (nat_le (checked_by turn.now before.checked + before.settings.cleanup_interval) turn.now) e turn.now before.settings.window wants mids news →
       lasts ≡ filter is_kept news →
       Accounts Holds e.plan (books old x f (seated e olds)) (books mid y g (seated e mids)) → SamePolls old mid → (IsTrue turn.come → Answers old mid) →
+      (accepted : ℕ) → now.accepted ≡ accepted → (IsTrue turn.come → AcceptsAll before.settings (length olds) accepted old mid) → (turn.come ≡ false → mid.given ≡ old.given) →
       Accounts Holds e.plan (books mid y g (seated e mids)) (books new z h (seated e lasts)) → OnlyRetires mid new →
+      now.checked ≡ checked_after turn.now before.checked before.settings.cleanup_interval →
       length lasts ≤ before.settings.connection_limit → IsTrue (is_below before.settings.serve_limit now.retired) →
       Carries e wants turn before now old new
-  carries told were are rest asks takes labours kept_is a1 same answers a2 r within unmet =
+  carries told were are rest asks takes labours kept_is a1 same answers accepted count all uncalled a2 r checked within unmet =
       let w = before.settings.window in
       let due = nat_le (checked_by turn.now before.checked + before.settings.cleanup_interval) turn.now in
-      let T : Turned due e turn.now w wants olds takes.came news = turned due e turn.now w wants olds takes.came news told asks rest takes.rest
+      let T : Turned due e turn.now w wants olds takes.came news = turned due e turn.now w wants olds takes.came news told asks rest takes.rest (news_by e turn.now takes.came told takes.opened takes.shown)
       (subst (λ ss. Labours due e turn.now w wants ss news) takes.are labours) in
       let seen : views e now ≡ map (λ s. viewed e s.lane) lasts = ap (map (viewed e)) are ∙ map_twice (viewed e) (λ s. s.lane) lasts in
       let sp = retires_time mid new r in
@@ -148,6 +160,7 @@ module _ {L P A S R : Type 0} (Holds : NetState L P → Retired L → Type 0) (e
         each = T.each;
         came = map (λ s. viewed e s.lane) (filter is_kept T.rest);
         are = seen ∙ ap (map (λ s. viewed e s.lane)) kept_is ∙ T.are;
+        fresh = T.fresh;
         since = a1.since;
         given_since = ap (λ n. n.given) r.same ∙ a1.given;
         few =
@@ -161,10 +174,13 @@ module _ {L P A S R : Type 0} (Holds : NetState L P → Retired L → Type 0) (e
             let s' = Rattle.poll_loop.proofs.Sifting.seated_length e mids in
             omega (arith, k, b, c, n, m, m', s, s');
         answers = λ come. answers_on Holds e.plan old (books mid y g (seated e mids)) (books new z h (seated e lasts)) a2 r (answers come);
+        all = λ come. until_on before.settings (length olds) (length before.open') accepted now.accepted a1.since old mid new (ap length were ∙ map_length (λ seat. seat.lane) olds) count a1.given r (all come);
+        uncalled = λ none. ap (λ n. n.given) r.same ∙ uncalled none;
         on_time = λ late.
             subst (λ ls. EachIs (λ v. is_late turn.now w v.shown ≡ false) (map (viewed e) ls)) (sym are)
             (each_lane e (λ v. is_late turn.now w v.shown ≡ false) lasts
             (subst (EachIs (λ s. is_late turn.now w s.lane.shown ≡ false)) (sym kept_is) (T.on_time (le_true _ _ late))));
+        checked = checked;
         within = let k = ap length are in let k' = map_length (λ seat. seat.lane) lasts in omega (arith, k, k', within);
         unmet = unmet;
         polls = record { polls = sp.polls ∙ same.polls; stopped = sp.stopped ∙ same.stopped; first = sp.first ∙ same.first; last = sp.last ∙ same.last };

@@ -1,17 +1,17 @@
 -- A whole turn, put together from its parts.
-use Rattle.std.proofs.Common.{◌≡◌, ◌≤◌, ◌<◌, ◌++◌, inl, inr, ℕ, List, [], ◌∷◌, Bool, true, false, IsTrue, refl, ap, sym, subst, ◌∙◌, arith, length, map, Some, None}
+use Rattle.std.proofs.Common.{◌≡◌, ◌⊎◌, ◌&&◌, ◌≤◌, ◌<◌, ◌++◌, inl, inr, ℕ, List, [], ◌∷◌, Bool, true, false, IsTrue, refl, ap, sym, subst, ◌∙◌, arith, length, map, Some, None}
 use Rattle.std.specs.Prelude.{Option, filter, IfSome}
 use Rattle.outside.specs.Causes.{Rose}
-use Rattle.outside.specs.Link.{LinkState, stamped}
+use Rattle.outside.specs.Link.{LinkState, opened, stamped}
 use Rattle.outside.specs.Net.{NetState, asked_of}
 use Rattle.outside.specs.declared.types.Want.{Want}
-use Rattle.channel.specs.Views.{LinkGoes, Spoke, Stamps, View, is_late}
+use Rattle.channel.specs.Views.{Heard, LinkGoes, Spoke, Stamps, Steps, View, fresh, is_due, is_late, is_writable}
 use Rattle.channel.specs.declared.types.Window.{Window}
 use Rattle.poll_loop.specs.Connections.{IsOpenedBy, SeatIsTimely, is_kept, seated}
 use Rattle.poll_loop.specs.Entries.{IsTimely, IsWithin}
 use Rattle.poll_loop.specs.Lists.{Both, EachIs, Paired, UpTo}
-use Rattle.poll_loop.specs.NoIdle.{Asks, Case, Serves, kept, with_kept}
-use Rattle.poll_loop.specs.Seat.{Attends, ChecksIf, Eyes, Follows, Goes, Labours, OverOrHolds, Passes, SeatAsks, SeatHolds, SeatRests, SeatTurns, is_open, viewed}
+use Rattle.poll_loop.specs.NoIdle.{Asks, Case, IsFresh, Serves, kept, with_kept}
+use Rattle.poll_loop.specs.Seat.{Attends, ChecksIf, Eyes, Follows, Goes, Labours, OverOrHolds, Passes, SeatAsks, SeatHolds, SeatRests, SeatTurns, StaysUp, is_open, viewed}
 use Rattle.poll_loop.specs.Settings.{fixed_by}
 use Rattle.poll_loop.specs.declared.seat.Mark.{Mark}
 use Rattle.poll_loop.specs.declared.seat.Mark.TheVariants as mark
@@ -39,19 +39,53 @@ spoke_then a b c h y faultless = (
   ],
 )
 
+-- what a turn leaves, its idle check with it
+record Meets (tells : Bool) (w : Window) (ready : Want) (old new : View) : Type 0 where
+  stays : StaysUp old new
+  heard : IsTrue tells → IsTrue ready.read → IsTrue ready.may_read → Heard old new
+  spoke : IsTrue tells → IsTrue ready.write → IsTrue ready.may_write → Spoke old new
+  stepped : IsTrue (is_due w old.shown) → Steps old.shown new.shown
+  offered : IsTrue tells → IsTrue (is_writable new.shown) → (new ≡ old) ⊎ Spoke old new
+  rested : IsTrue tells → (ready.read && ready.may_read) ≡ false → (ready.write && ready.may_write) ≡ false → is_due w old.shown ≡ false →
+      (new ≡ old) ⊎ Spoke old new
+
+attends_meets : (tells : Bool) (w : Window) (ready : Want) (a b : View) → Attends tells w ready a b → Meets tells w ready a b
+attends_meets tells w ready a b x = record {
+  stays = x.stays;
+  heard = x.heard;
+  spoke = x.spoke;
+  stepped = x.stepped;
+  offered = x.offered;
+  rested = λ _ r s d. inl (x.rested r s d);
+}
+
+-- an idle check sends, or does nothing
+pass_sends : (tells : Bool) (now : ℕ) (w : Window) (b c : View) → Passes tells now w b c → IsTrue tells → (c ≡ b) ⊎ Spoke b c
+pass_sends tells now w b c y t = pick (is_writable b.shown) refl
+  where
+    pick : (o : Bool) → is_writable b.shown ≡ o → (c ≡ b) ⊎ Spoke b c
+    pick true o = inr (y.spoke t o)
+    pick false o = inl (y.nothing o)
+
 -- an idle check behind the rest
 attends_passes : (tells : Bool) (now : ℕ) (w : Window) (ready : Want) (a b c : View) → Follows tells now a b → Attends tells w ready a b →
-    Follows tells now b c → Passes tells now w b c → Attends tells w ready a c
+    Follows tells now b c → Passes tells now w b c → Meets tells w ready a c
 attends_passes tells now w ready a b c f x g y = record {
   stays = record { up = y.stays.up; faultless = y.stays.faultless ∙ x.stays.faultless };
   heard = λ t r m. heard_then a b c (x.heard t r m) (g.goes t) y.stays.faultless;
   spoke = λ t r m. spoke_then a b c (x.spoke t r m) (g.goes t) y.stays.faultless;
   stepped = λ due. steps_within a.shown a.shown b.shown c.shown refl refl refl y.begun y.answered y.left (x.stepped due);
   offered = λ t o. inr (spoke_behind a b c (f.goes t) x.stays.faultless (y.offered t o));
+  rested = λ t r s d.
+      let same : b ≡ a = x.rested r s d in
+      elim (pass_sends tells now w b c y t) [
+        | inl e ↦ inl (e ∙ same)
+        | inr h ↦ inr (subst (λ v. Spoke v c) same h)
+      ];
 }
 
 serves_by : (tells : Bool) (now : ℕ) (w : Window) (ready want : Want) (m : Mark) (old new : View) → IsTrue tells → SeatHolds w want m old →
-    Follows tells now old new → Attends tells w ready old new → Serves w ready old new
+    Follows tells now old new → Meets tells w ready old new → Serves now w ready old new
 serves_by tells now w ready want m old new t h f a = record {
   key = f.key;
   was_alive = h.up.alive;
@@ -61,8 +95,10 @@ serves_by tells now w ready want m old new t h f a = record {
   spoke = a.spoke t;
   stepped = a.stepped;
   offered = a.offered t;
+  rested = a.rested t;
   moves = f.moves;
   goes = f.goes t;
+  stamps = f.stamps t;
 }
 
 open_parts : (now : ℕ) (w : Window) (want : Want) (m : Mark) (v : View) (P : Type 0) → IsTrue (is_open m) → OverOrHolds now w want m v P → P × SeatHolds w want m v
@@ -86,13 +122,18 @@ if_kept mark.Works v Q f = f refl
 -- what a turn did to a seat that is kept
 record Attended {L P A S R : Type 0} (e : Eyes L P) (now : ℕ) (w : Window) (ready : Want) (old new : Seat L A S P R) : Type 0 where
   follows : Follows e.tells now (viewed e old.lane) (viewed e new.lane)
-  attends : Attends e.tells w ready (viewed e old.lane) (viewed e new.lane)
+  meets : Meets e.tells w ready (viewed e old.lane) (viewed e new.lane)
+
+attends_turn : {L P A S R : Type 0} (e : Eyes L P) (now : ℕ) (w : Window) (ready : Want) (old new : Seat L A S P R) →
+    SeatTurns e now w ready old new → IsTrue (is_open new.mark) → Attends e.tells w ready (viewed e old.lane) (viewed e new.lane)
+attends_turn e now w ready old new turns o =
+    (open_parts now w new.want new.mark (viewed e new.lane) (Attends e.tells w ready (viewed e old.lane) (viewed e new.lane)) o turns.leaves).0
 
 attended_turn : {L P A S R : Type 0} (e : Eyes L P) (now : ℕ) (w : Window) (ready : Want) (old new : Seat L A S P R) →
     SeatTurns e now w ready old new → IsTrue (is_open new.mark) → Attended e now w ready old new
 attended_turn e now w ready old new turns o = record {
   follows = turns.goes.follows;
-  attends = (open_parts now w new.want new.mark (viewed e new.lane) (Attends e.tells w ready (viewed e old.lane) (viewed e new.lane)) o turns.leaves).0;
+  meets = attends_meets e.tells w ready (viewed e old.lane) (viewed e new.lane) (attends_turn e now w ready old new turns o);
 }
 
 attended : {L P A S R : Type 0} (due : Bool) (e : Eyes L P) (now : ℕ) (w : Window) (ready : Want) (old mid new : Seat L A S P R) →
@@ -106,21 +147,21 @@ attended true e now w ready old mid new turns checks o = pick (is_open mid.mark)
         let same = checks.over n in
         subst (λ s. Attended e now w ready old s) (sym same) (attended_turn e now w ready old mid turns (subst (λ s. IsTrue (is_open s.mark)) same o))
     pick true b =
-        let first = attended_turn e now w ready old mid turns b in
+        let first = attends_turn e now w ready old mid turns b in
         let passes = open_parts now w new.want new.mark (viewed e new.lane) (Passes e.tells now w (viewed e mid.lane) (viewed e new.lane)) o (checks.passes b) in
         record {
-          follows = follows_trans e.tells now (viewed e old.lane) (viewed e mid.lane) (viewed e new.lane) first.follows checks.goes.follows;
-          attends = attends_passes e.tells now w ready (viewed e old.lane) (viewed e mid.lane) (viewed e new.lane) first.follows first.attends checks.goes.follows passes.0;
+          follows = follows_trans e.tells now (viewed e old.lane) (viewed e mid.lane) (viewed e new.lane) turns.goes.follows checks.goes.follows;
+          meets = attends_passes e.tells now w ready (viewed e old.lane) (viewed e mid.lane) (viewed e new.lane) turns.goes.follows first checks.goes.follows passes.0;
         }
 
 asks_by : {L P A S R : Type 0} (e : Eyes L P) (now : ℕ) (w : Window) (ready : Want) (old new : Seat L A S P R) → IsTrue e.tells → SeatRests e w old → asked_of ready ≡ asked_of old.want →
     (IsTrue (is_open new.mark) → Attended e now w ready old new) →
-    Asks w (record { ready = ready; old = viewed e old.lane; new = kept_view new.mark (viewed e new.lane) })
+    Asks now w (record { ready = ready; old = viewed e old.lane; new = kept_view new.mark (viewed e new.lane) })
 asks_by e now w ready old new t rests asks did = record {
   wants = asks ∙ rests.holds.asks;
   stirs = rests.holds.stirs;
-  serves = if_kept new.mark (viewed e new.lane) (λ v. Serves w ready (viewed e old.lane) v)
-      (λ o. serves_by e.tells now w ready old.want old.mark (viewed e old.lane) (viewed e new.lane) t rests.holds (did o).follows (did o).attends);
+  serves = if_kept new.mark (viewed e new.lane) (λ v. Serves now w ready (viewed e old.lane) v)
+      (λ o. serves_by e.tells now w ready old.want old.mark (viewed e old.lane) (viewed e new.lane) t rests.holds (did o).follows (did o).meets);
 }
 
 passed_on_time : {L P A S R : Type 0} (due : Bool) (e : Eyes L P) (now : ℕ) (w : Window) (old new : Seat L A S P R) → ChecksIf due e now w old new →
@@ -152,6 +193,10 @@ both_length R [] (y ∷ ys) b = absurd b
 both_length R (x ∷ xs) [] b = absurd b
 both_length R (x ∷ xs) (y ∷ ys) b = let e = both_length R xs ys b.1 in grind (arith, e)
 
+each_seen : {L P A S R : Type 0} (e : Eyes L P) (Q : View → Type 0) (seats : List (Seat L A S P R)) → EachIs (λ s. Q (viewed e s.lane)) seats → EachIs Q (map (λ s. viewed e s.lane) seats)
+each_seen e Q [] h = tt
+each_seen e Q (s ∷ ss) h = (h.0, each_seen e Q ss h.1)
+
 heads : {X : Type 0} {x y : X} {xs ys : List X} → x ∷ xs ≡ y ∷ ys → x ≡ y
 heads e = cc
 
@@ -163,6 +208,37 @@ pub asks_paired : {L P A S R : Type 0} (e : Eyes L P) (w : Window) (wants : List
 asks_paired e w [] olds came asks h = tt
 asks_paired e w (r ∷ rs) [] came asks h = cc
 asks_paired e w (r ∷ rs) (o ∷ os) came asks h = (record { rests = h.0; asks = heads asks }, asks_paired e w rs os came (tails asks) h.1)
+
+-- ---- who came
+
+-- who came, as it is opened
+abbrev pub IsNew : {L P A S R : Type 0} → Eyes L P → ℕ → Seat L A S P R → Type 0
+IsNew e now s = IsFresh now (viewed e s.lane)
+
+pub news_by : {L P A S R : Type 0} (e : Eyes L P) (now : ℕ) (came : List (Seat L A S P R)) → IsTrue e.tells →
+    EachIs (λ seat. IsTrue e.tells → e.state seat.lane.link ≡ opened now) came → EachIs (λ seat. seat.lane.shown ≡ fresh now) came → EachIs (IsNew e now) came
+news_by e now [] t o h = tt
+news_by e now (s ∷ ss) t o h = (record { link = o.0 t; shown = h.0 }, news_by e now ss t o.1 h.1)
+
+-- an idle check does nothing to one that has nothing to send
+new_by_check : {L P A S R : Type 0} (due : Bool) (e : Eyes L P) (now : ℕ) (w : Window) (old new : Seat L A S P R) → IsNew e now old → ChecksIf due e now w old new →
+    IsTrue (is_open new.mark) → IsNew e now new
+new_by_check false e now w old new h same o = subst (IsNew e now) (sym same) h
+new_by_check true e now w old new h checks o = pick (is_open old.mark) refl
+  where
+    pick : (b : Bool) → is_open old.mark ≡ b → IsNew e now new
+    pick false n = subst (IsNew e now) (sym (checks.over n)) h
+    pick true b =
+        let passes = open_parts now w new.want new.mark (viewed e new.lane) (Passes e.tells now w (viewed e old.lane) (viewed e new.lane)) o (checks.passes b) in
+        subst (IsFresh now) (sym (passes.0.nothing (ap is_writable h.shown))) h
+
+new_by_checks : {L P A S R : Type 0} (due : Bool) (e : Eyes L P) (now : ℕ) (w : Window) (olds news : List (Seat L A S P R)) → EachIs (IsNew e now) olds →
+    Both (ChecksIf due e now w) olds news → EachIs (IsNew e now) (filter is_kept news)
+new_by_checks due e now w [] [] h b = tt
+new_by_checks due e now w [] (n ∷ ns) h b = absurd b
+new_by_checks due e now w (o ∷ os) [] h b = absurd b
+new_by_checks due e now w (o ∷ os) (n ∷ ns) h b =
+    keep_one is_kept (IsNew e now) n ns (is_kept n) refl (new_by_check due e now w o n h.0 b.0) (new_by_checks due e now w os ns h.1 b.1)
 
 -- ---- the seats that are kept
 
@@ -197,32 +273,34 @@ pub record Turned {L P A S R : Type 0} (due : Bool) (e : Eyes L P) (now : ℕ) (
   pub cases : List Case
   pub were : map (λ c. c.old) cases ≡ map (λ s. viewed e s.lane) olds
   pub asked : map (λ c. c.ready) cases ≡ wants
-  pub each : EachIs (Asks w) cases
+  pub each : EachIs (Asks now w) cases
   -- what became of those that came
   pub rest : List (Seat L A S P R)
   pub are : map (λ s. viewed e s.lane) (filter is_kept news) ≡ kept cases ++ map (λ s. viewed e s.lane) (filter is_kept rest)
+  pub fresh : EachIs (IsFresh now) (map (λ s. viewed e s.lane) (filter is_kept rest))
   pub few : length rest ≡ length came
   pub on_time : due ≡ true → EachIs (λ s. is_late now w s.lane.shown ≡ false) (filter is_kept news)
 
 turned_by : {L P A S R : Type 0} (due : Bool) (e : Eyes L P) (now : ℕ) (w : Window) (wants : List Want) (olds came mids news : List (Seat L A S P R)) → IsTrue e.tells →
-    map asked_of wants ≡ map (λ s. asked_of s.want) olds → EachIs (SeatRests e w) olds →
+    map asked_of wants ≡ map (λ s. asked_of s.want) olds → EachIs (SeatRests e w) olds → EachIs (IsNew e now) came →
     UpTo (SeatTurns e now w) (length wants) wants (olds ++ came) mids → Both (ChecksIf due e now w) mids news → Turned due e now w wants olds came news
-turned_by due e now w [] [] came mids news t asks h u b = record {
+turned_by due e now w [] [] came mids news t asks h k u b = record {
   cases = [];
   were = refl;
   asked = refl;
   each = tt;
   rest = news;
   are = refl;
+  fresh = each_seen e (IsFresh now) (filter is_kept news) (new_by_checks due e now w mids news (subst (EachIs (IsNew e now)) (sym u) k) b);
   few = both_length (ChecksIf due e now w) mids news b ∙ ap length u;
   on_time = all_on_time due e now w mids news b;
 }
-turned_by due e now w [] (o ∷ os) came mids news t asks h u b = cc
-turned_by due e now w (r ∷ rs) [] came mids news t asks h u b = cc
-turned_by due e now w (r ∷ rs) (o ∷ os) came [] news t asks h u b = absurd u
-turned_by due e now w (r ∷ rs) (o ∷ os) came (m ∷ ms) [] t asks h u b = absurd b
-turned_by due e now w (r ∷ rs) (o ∷ os) came (m ∷ ms) (n ∷ ns) t asks h u b =
-    let more = turned_by due e now w rs os came ms ns t (tails asks) h.1 u.1 b.1 in
+turned_by due e now w [] (o ∷ os) came mids news t asks h k u b = cc
+turned_by due e now w (r ∷ rs) [] came mids news t asks h k u b = cc
+turned_by due e now w (r ∷ rs) (o ∷ os) came [] news t asks h k u b = absurd u
+turned_by due e now w (r ∷ rs) (o ∷ os) came (m ∷ ms) [] t asks h k u b = absurd b
+turned_by due e now w (r ∷ rs) (o ∷ os) came (m ∷ ms) (n ∷ ns) t asks h k u b =
+    let more = turned_by due e now w rs os came ms ns t (tails asks) h.1 k u.1 b.1 in
     record {
       cases = record { ready = r; old = viewed e o.lane; new = kept_view n.mark (viewed e n.lane) } ∷ more.cases;
       were = ap (λ vs. viewed e o.lane ∷ vs) more.were;
@@ -230,14 +308,15 @@ turned_by due e now w (r ∷ rs) (o ∷ os) came (m ∷ ms) (n ∷ ns) t asks h 
       each = (asks_by e now w r o n t h.0 (heads asks) (attended due e now w r o m n u.0 b.0), more.each);
       rest = more.rest;
       are = kept_cons e n.mark n ns (kept more.cases) (map (λ s. viewed e s.lane) (filter is_kept more.rest)) refl more.are;
+      fresh = more.fresh;
       few = more.few;
       on_time = λ d. keep_one is_kept (λ s. is_late now w s.lane.shown ≡ false) n ns (is_kept n) refl (passed_on_time due e now w m n b.0 d) (more.on_time d);
     }
 
 pub turned : {L P A S R : Type 0} (due : Bool) (e : Eyes L P) (now : ℕ) (w : Window) (wants : List Want) (olds came news : List (Seat L A S P R)) → IsTrue e.tells →
-    map asked_of wants ≡ map (λ s. asked_of s.want) olds → EachIs (SeatRests e w) olds → EachIs (SeatRests e w) came →
+    map asked_of wants ≡ map (λ s. asked_of s.want) olds → EachIs (SeatRests e w) olds → EachIs (SeatRests e w) came → EachIs (IsNew e now) came →
     Labours due e now w wants (olds ++ came) news → Turned due e now w wants olds came news
-turned due e now w wants olds came news t asks h k l = turned_by due e now w wants olds came l.mids news t asks h l.turns l.checks
+turned due e now w wants olds came news t asks h _ k l = turned_by due e now w wants olds came l.mids news t asks h k l.turns l.checks
 
 -- ---- the seats rest again
 

@@ -14,10 +14,10 @@ use Rattle.outside.specs.declared.types.End.TheVariants as over
 use Rattle.outside.specs.declared.types.Peer.{Peer}
 use Rattle.outside.specs.declared.types.Want.{Want}
 use Rattle.poll_loop.specs.Accounts.{Accounts, Books, TimeGoesOn, books, retired_of}
-use Rattle.poll_loop.specs.Connections.{CameAll, CameBy, CameMore, SamePolls, SeatsOne, Takes, seated}
+use Rattle.poll_loop.specs.Connections.{CameAll, CameBy, CameMore, CameUntil, SamePolls, SeatsOne, Takes, seated}
 use Rattle.poll_loop.specs.Entries.{EntryHolds, Grounds, IsTimely, IsWithin, Service, app_faults, spill_faults}
 use Rattle.poll_loop.specs.Seat.{Eyes, SeatHolds, viewed}
-use Rattle.poll_loop.specs.Settings.{fixed_by}
+use Rattle.poll_loop.specs.Settings.{fixed_by, is_below}
 use Rattle.poll_loop.specs.declared.connections.Came.{Came}
 use Rattle.poll_loop.specs.declared.connections.Came.TheVariants as came
 use Rattle.poll_loop.specs.declared.seat.Mark.TheVariants as mark
@@ -45,6 +45,7 @@ seats_one e settings app now link peer olds news seat are link_is peer_is fixed 
       are = are;
       link_is = link_is;
       peer_is = peer_is;
+      shown = shown;
       rests = record {
         window = window;
         holds = subst (λ m. SeatHolds settings.window seat.want m (viewed e seat.lane)) (sym rests)
@@ -156,6 +157,8 @@ pub record NetSoFar {L P : Type 0} (Holds : NetState L P → Retired L → Type 
   pub came_more : CameMore limit before now (length old.net.given) (length new.net.given)
   pub first : rounds ≡ 0 → new.net ≡ old.net
   pub some : 0 < rounds → Rose old.net.asked new.net.asked × (length old.net.given < length new.net.given)
+  pub put_off : new.net.put_off ≡ old.net.put_off
+  pub each : rounds + length old.net.given ≤ length new.net.given
 
 -- The same with the seats.
 pub record SoFar {L P A S R : Type 0} (tells : Bool) (Holds : NetState L P → Retired L → Type 0) (e : Eyes L P) (settings : Settings) (app : A) (now rounds : ℕ)
@@ -163,6 +166,7 @@ pub record SoFar {L P A S R : Type 0} (tells : Bool) (Holds : NetState L P → R
   pub takes : Takes e settings app now olds news
   pub seats : rounds ≡ 0 → news ≡ olds
   pub count : rounds ≡ 0 → accepted' ≡ accepted
+  pub few : length news ≤ length olds + rounds
   pub net : IsTrue tells → NetSoFar Holds e.plan settings.serve_limit rounds old new accepted accepted'
 
 pub same_polls_refl : {L P : Type 0} (net : NetState L P) → SamePolls net net
@@ -195,7 +199,7 @@ more_by_given {L} {P} Holds plan old new a more =
     omega (arith, more, c, c', g, g', l, p, p', p'', m)
 
 pub takes_refl : {L P A S R : Type 0} (e : Eyes L P) (settings : Settings) (app : A) (now : ℕ) (seats : List (Seat L A S P R)) → Takes e settings app now seats seats
-takes_refl e settings app now seats = record { came = []; are = sym (append-nil seats); rest = tt; by = tt; opened = tt }
+takes_refl e settings app now seats = record { came = []; are = sym (append-nil seats); rest = tt; by = tt; opened = tt; shown = tt }
 
 pub takes_trans : {L P A S R : Type 0} (e : Eyes L P) (settings : Settings) (app : A) (now : ℕ) (a b c : List (Seat L A S P R)) → Takes e settings app now a b → Takes e settings app now b c → Takes e settings app now a c
 takes_trans e settings app now a b c x y = record {
@@ -204,6 +208,7 @@ takes_trans e settings app now a b c x y = record {
   rest = each_append _ x.came y.came x.rest y.rest;
   by = each_append _ x.came y.came x.by y.by;
   opened = each_append _ x.came y.came x.opened y.opened;
+  shown = each_append _ x.came y.came x.shown y.shown;
 }
 
 rose_more : {L P : Type 0} (rounds : ℕ) (a b c : NetState L P) → (rounds ≡ 0 → b ≡ a) → (0 < rounds → Rose a.asked b.asked × (length a.given < length b.given)) → Rose b.asked c.asked → Rose a.asked c.asked
@@ -222,6 +227,8 @@ module _ {L P : Type 0} (Holds : NetState L P → Retired L → Type 0) (plan : 
     came_more = came_more_same limit accepted (length b.net.given);
     first = λ _. refl;
     some = λ h. absurd (omega (arith, h));
+    put_off = refl;
+    each = omega arith;
   }
 
   module _ (later : (old new : NetState L P) → TimeGoesOn old new → (entry : Retired L) → Holds old entry → Holds new entry) (rounds : ℕ) (a b c : Books L P) (x y z : ℕ)
@@ -245,6 +252,8 @@ module _ {L P : Type 0} (Holds : NetState L P → Retired L → Type 0) (plan : 
           came_more = came_more_trans limit x y z (length a.net.given) (length b.net.given) (length c.net.given) sofar.came_more counts;
           first = λ e. absurd (let e' : rounds + 1 ≡ 0 = e in omega (arith, e'));
           some = λ _. (rose_more rounds a.net b.net c.net sofar.first sofar.some by.0, omega (arith, l, g));
+          put_off = by.2 ∙ sofar.put_off;
+          each = let h = sofar.each in omega (arith, h, g);
         }
 
     -- whatever the last accept brought
@@ -264,23 +273,39 @@ module _ {L P : Type 0} (Holds : NetState L P → Retired L → Type 0) (plan : 
     net_answers came.Failed by = tt
     net_answers came.NoMemory by = tt
 
+    -- the last accept brought nobody
+    net_until : (last : Came) (settings : Settings) (open' : ℕ) → ¬ (last ≡ came.One) → CameBy last b.net c.net → CameUntil last settings open' z a.net c.net
+    net_until came.One settings open' other by = absurd (other refl)
+    net_until came.Nobody settings open' other by = inl (subst (λ k. Rose k c.net.put_off) sofar.put_off by.1)
+    net_until came.Failed settings open' other by = tt
+    net_until came.NoMemory settings open' other by = tt
+
+no_room : (n limit : ℕ) (b : Bool) → (nat_lt n limit && b) ≡ false → (limit ≤ n) ⊎ (b ≡ false)
+no_room n limit b h = by_test (nat_lt n limit) refl h
+  where
+    by_test : (t : Bool) → nat_lt n limit ≡ t → (t && b) ≡ false → (limit ≤ n) ⊎ (b ≡ false)
+    by_test true e h = inr h
+    by_test false e h = inl (grind (arith, e))
+
 module _ {L P A S R : Type 0} (tells : Bool) (Holds : NetState L P → Retired L → Type 0) (e : Eyes L P) (settings : Settings) (app : A) (now : ℕ) where
   pub start_accepting : (seats : List (Seat L A S P R)) (b : Books L P) (accepted : ℕ) → SoFar tells Holds e settings app now 0 seats seats b b accepted accepted
   start_accepting seats b accepted = record {
     takes = takes_refl e settings app now seats;
     seats = λ _. refl;
     count = λ _. refl;
+    few = omega arith;
     net = λ _. net_start Holds e.plan settings.serve_limit b accepted;
   }
 
   module _ (later : (old new : NetState L P) → TimeGoesOn old new → (entry : Retired L) → Holds old entry → Holds new entry) (rounds : ℕ) (s1 s2 s3 : List (Seat L A S P R)) (a b c : Books L P) (x y z : ℕ)
       (sofar : SoFar tells Holds e settings app now rounds s1 s2 a b x y) (takes : Takes e settings app now s2 s3) (more : IsTrue tells → Accounts Holds e.plan b c)
       (same : IsTrue tells → SamePolls b.net c.net) (counts : IsTrue tells → CameMore settings.serve_limit y z (length b.net.given) (length c.net.given)) where
-    pub one_more : (IsTrue tells → CameBy came.One b.net c.net) → SoFar tells Holds e settings app now (rounds + 1) s1 s3 a c x z
-    one_more by = record {
+    pub one_more : length s3 ≤ length s2 + 1 → (IsTrue tells → CameBy came.One b.net c.net) → SoFar tells Holds e settings app now (rounds + 1) s1 s3 a c x z
+    one_more few by = record {
       takes = takes_trans e settings app now s1 s2 s3 sofar.takes takes;
       seats = λ e. absurd (let e' : rounds + 1 ≡ 0 = e in omega (arith, e'));
       count = λ e. absurd (let e' : rounds + 1 ≡ 0 = e in omega (arith, e'));
+      few = let h = sofar.few in omega (arith, h, few);
       net = λ t. net_more Holds e.plan settings.serve_limit later rounds a b c x y z (sofar.net t) (more t) (same t) (counts t) (by t);
     }
 
@@ -299,11 +324,30 @@ module _ {L P A S R : Type 0} (tells : Bool) (Holds : NetState L P → Retired L
     pub last_came : (last : Came) → (IsTrue tells → CameBy last b.net c.net) → IsTrue tells → CameAll last a.net c.net
     last_came last by t = net_answers Holds e.plan settings.serve_limit later rounds a b c x y z (sofar.net t) (more t) last (by t)
 
+    pub last_until : (last : Came) → ¬ (last ≡ came.One) → (IsTrue tells → CameBy last b.net c.net) → IsTrue tells → CameUntil last settings (length s1) z a.net c.net
+    last_until last other by t = net_until Holds e.plan settings.serve_limit later rounds a b c x y z (sofar.net t) (more t) last settings (length s1) other (by t)
+
   -- there is no more room
   pub full_came : (rounds : ℕ) (s1 s2 : List (Seat L A S P R)) (a b : Books L P) (x y : ℕ) → SoFar tells Holds e settings app now rounds s1 s2 a b x y → 0 < rounds → IsTrue tells → CameAll came.One a.net b.net
   full_came rounds s1 s2 a b x y sofar some t =
       let s = (sofar.net t).some some in
       (s.0, inr (more_by_given Holds e.plan a b (sofar.net t).accounts s.1))
+
+  -- so many came as there is room for or are to be served
+  pub full_until : (rounds : ℕ) (s1 s2 : List (Seat L A S P R)) (a b : Books L P) (x y : ℕ) → SoFar tells Holds e settings app now rounds s1 s2 a b x y →
+      (settings.connection_limit ≤ length s1 + rounds) ⊎ (is_below settings.serve_limit y ≡ false) → IsTrue tells → CameUntil came.One settings (length s1) y a.net b.net
+  full_until rounds s1 s2 a b x y sofar full t = inr (elim full [
+    | inl h ↦ inl (let k = (sofar.net t).each in omega (arith, h, k))
+    | inr h ↦ inr h
+  ])
+
+  -- the seats are taken
+  pub full_seats : (rounds : ℕ) (s1 s2 : List (Seat L A S P R)) (a b : Books L P) (x y : ℕ) → SoFar tells Holds e settings app now rounds s1 s2 a b x y →
+      (nat_lt (length s2) settings.connection_limit && is_below settings.serve_limit y) ≡ false → IsTrue tells → CameUntil came.One settings (length s1) y a.net b.net
+  full_seats rounds s1 s2 a b x y sofar full = full_until rounds s1 s2 a b x y sofar (elim (no_room (length s2) settings.connection_limit (is_below settings.serve_limit y) full) [
+    | inl h ↦ inl (let k = sofar.few in omega (arith, h, k))
+    | inr h ↦ inr h
+  ])
 
 -- at the first round there is room
 pub some_round : {X : Type 0} (round : ℕ) (olds news : List X) (before now : ℕ) (test : List X → ℕ → Bool) → (round ≡ 0 → news ≡ olds) → (round ≡ 0 → now ≡ before) → IsTrue (test olds before) → test news now ≡ false → 0 < round

@@ -2,10 +2,10 @@
 use Rattle.std.proofs.Common.{◌≡◌, ◌≤◌, inr, ℕ, List, [], ◌∷◌, Bool, true, false, IsTrue, nat_lt, refl, ap, sym, subst, ◌∙◌, arith, length}
 use Rattle.outside.specs.Net.{asked_of}
 use Rattle.outside.specs.declared.types.Want.{Want}
-use Rattle.channel.specs.Views.{View, is_writable, want_of}
+use Rattle.channel.specs.Views.{Shown, View, is_due, is_writable, want_of}
 use Rattle.channel.specs.declared.types.Window.{Window}
 use Rattle.poll_loop.specs.Lists.{Both, EachIs, Paired, UpTo}
-use Rattle.poll_loop.specs.Seat.{Attends, Eyes, Follows, Goes, Hears, IsUp, Labours, MarkHolds, OverOrHolds, OverOrMarked, Passes, SeatAsks, SeatChecks, SeatHolds, SeatOut, SeatRests, SeatTurns, Speaks, Strides, is_open, viewed}
+use Rattle.poll_loop.specs.Seat.{Attends, Eyes, Follows, Goes, Hears, IsCalled, IsUncalled, IsUp, Labours, MarkHolds, OverOrHolds, OverOrMarked, Passes, SeatAsks, SeatChecks, SeatHolds, SeatOut, SeatRests, SeatTurns, Speaks, Strides, is_open, viewed}
 use Rattle.poll_loop.specs.declared.seat.Mark.{Mark}
 use Rattle.poll_loop.specs.declared.seat.Mark.TheVariants as mark
 use Rattle.poll_loop.specs.declared.seat.Seat.{Seat}
@@ -24,10 +24,10 @@ was_writable tells c d z o = pick (is_writable c.shown) refl
     pick false e = let same = ap (λ v. is_writable v.shown) (z.nothing e) in cc
 
 -- reading, steps and sending make a turn of one connection
-pub attends_by : (tells : Bool) (now : ℕ) (w : Window) (ready : Want) (a b c d : View) → asked_of ready ≡ want_of w a →
+pub attends_by : (tells : Bool) (now : ℕ) (w : Window) (ready : Want) (a b c d : View) → asked_of ready ≡ want_of w a → IsCalled w ready a.shown →
     Follows tells now a b → Hears tells w ready a b → Follows tells now b c → c.faults ≡ b.faults → Strides w b.shown c.shown →
     Follows tells now c d → Speaks tells c d → Attends tells w ready a d
-attends_by tells now w ready a b c d asks f x g still y h z =
+attends_by tells now w ready a b c d asks called f x g still y h z =
     let faultless : c.faults ≡ a.faults = still ∙ x.stays.faultless in
     let first : Follows tells now a c = follows_trans tells now a b c f g in
     let last : Follows tells now b d = follows_trans tells now b c d g h in
@@ -41,7 +41,17 @@ attends_by tells now w ready a b c d asks f x g still y h z =
       stepped = λ due. steps_within a.shown b.shown c.shown d.shown x.begun x.answered x.left z.begun z.answered z.left
           (y.stepped (x.still due) z.was_alive);
       offered = λ t o. inr (spoke_behind a c d (first.goes t) faultless (z.spoke t (was_writable tells c d z o)));
+      rested = λ r s due. absurd (called r s due);
     }
+
+rests_where : (w : Window) (m : Mark) (s : Shown) → MarkHolds w m s → is_due w s ≡ false → m ≡ mark.Rests
+rests_where w mark.Rests s h d = refl
+rests_where w mark.Works s h d = cc
+rests_where w (mark.Over end) s h d = absurd h
+
+-- who is called is ready or due
+pub called_by : (w : Window) (ready : Want) (m : Mark) (s : Shown) (called : Bool) → MarkHolds w m s → (IsUncalled ready m → called ≡ false) → called ≡ true → IsCalled w ready s
+called_by w ready m s called h f t = λ r o d. let n = f (record { rests = rests_where w m s h d; unread = r; unwritten = o }) in cc
 
 pub marked_by : (now : ℕ) (w v : Window) (m : Mark) (new : View) (P : Type 0) → v ≡ w → P → MarkHolds v m new.shown → OverOrMarked now w m new P
 marked_by now w v (mark.Over end) new P same p h = absurd h

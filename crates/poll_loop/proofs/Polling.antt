@@ -18,6 +18,7 @@ use Rattle.poll_loop.specs.Lists.{EachIs}
 use Rattle.poll_loop.specs.NoIdle.{AsksNothing, Hosts, NoIdle, Nudges, Serving, is_accepting, is_some_due, views}
 use Rattle.poll_loop.specs.Seat.{Eyes, MarkHolds, SeatRests, viewed}
 use Rattle.poll_loop.specs.Server.{Carries, StepEnds, Steps}
+use Rattle.poll_loop.specs.Settings.{is_below}
 use Rattle.poll_loop.specs.declared.seat.Mark.{Mark}
 use Rattle.poll_loop.specs.declared.seat.Mark.TheVariants as mark
 use Rattle.poll_loop.specs.declared.seat.Seat.{Seat}
@@ -254,6 +255,7 @@ no_idle_by {L} {P} e before now wants asked accepting turn old mid new told c un
       each = c.each;
       came = c.came;
       are = c.are;
+      fresh = c.fresh;
       since = c.since;
       given_since = c.given_since ∙ ap (λ g. g ++ c.since) (ap (λ n. n.given) s);
       few = c.few;
@@ -264,7 +266,11 @@ no_idle_by {L} {P} e before now wants asked accepting turn old mid new told c un
           | inr h ↦ inr (let x = ap (λ n. length n.closed) s in let y = ap (λ n. n.live) s in omega (arith, h, x, y))
         ],
       );
+      all = λ come. subst (λ k. Rose k new.put_off ⊎ ((before.settings.connection_limit ≤ length before.open' + length c.since) ⊎ (is_below before.settings.serve_limit now.accepted ≡ false)))
+          (ap (λ n. n.put_off) s) (c.all come);
+      uncalled = λ none. c.uncalled none ∙ ap (λ n. n.given) s;
       on_time = c.on_time;
+      checked = c.checked;
       within = c.within;
       unmet = c.unmet;
     }

@@ -1,9 +1,9 @@
 -- Internal: what the parts of a turn do to the connections.
-use Rattle.std.specs.Prelude.{◌≡◌, ◌≤◌, ◌<◌, ◌+◌, ℕ, Bool, true, false, IsTrue, List, [], ◌∷◌, ◌++◌, length, map, take, Option, None, Some, IsPermutation}
+use Rattle.std.specs.Prelude.{◌≡◌, ◌≤◌, ◌<◌, ◌+◌, ◌⊎◌, ℕ, Bool, true, false, IsTrue, List, [], ◌∷◌, ◌++◌, length, map, take, Option, None, Some, IsPermutation}
 use Rattle.std.specs.List.{list_any}
 use Rattle.channel.specs.Owed.{owed_by}
 use Rattle.channel.specs.Output.{Script}
-use Rattle.channel.specs.Views.{Telling}
+use Rattle.channel.specs.Views.{Telling, fresh}
 use Rattle.outside.specs.Causes.{Rose}
 use Rattle.outside.specs.Link.{opened}
 use Rattle.outside.specs.Net.{NetState, asked_of, last_moment}
@@ -15,7 +15,7 @@ use Rattle.poll_loop.specs.Entries.{Grounds, IsTimely, IsWithin, Service}
 use Rattle.poll_loop.specs.Lists.{EachIs}
 use Rattle.poll_loop.specs.NoIdle.{Answers, Nudges}
 use Rattle.poll_loop.specs.Seat.{Eyes, SeatRests, is_open}
-use Rattle.poll_loop.specs.Settings.{fixed_by}
+use Rattle.poll_loop.specs.Settings.{fixed_by, is_below}
 use Rattle.poll_loop.specs.declared.connections.Came.{Came}
 use Rattle.poll_loop.specs.declared.connections.Came.TheVariants as came
 use Rattle.poll_loop.specs.declared.seat.Mark.{Mark}
@@ -105,6 +105,7 @@ pub record Takes {L P A S R : Type 0} (e : Eyes L P) (settings : Settings) (app 
   pub rest : EachIs (SeatRests e settings.window) came
   pub by : EachIs (IsOpenedBy settings app) came
   pub opened : EachIs (λ seat. IsTrue e.tells → e.state seat.lane.link ≡ opened now) came
+  pub shown : EachIs (λ seat. seat.lane.shown ≡ fresh now) came
 
 -- one more connection has a seat
 pub record SeatsOne {L P A S R : Type 0} (e : Eyes L P) (settings : Settings) (app : A) (now : ℕ) (link : L)
@@ -113,12 +114,13 @@ pub record SeatsOne {L P A S R : Type 0} (e : Eyes L P) (settings : Settings) (a
   pub are : news ≡ olds ++ seat ∷ []
   pub link_is : seat.lane.link ≡ link
   pub peer_is : seat.lane.peer ≡ peer
+  pub shown : seat.lane.shown ≡ fresh now
   pub rests : SeatRests e settings.window seat
   pub by : IsOpenedBy settings app seat
 
 -- the net was asked: a connection came, or it put off
 abbrev pub CameBy : {L P : Type 0} → Came → NetState L P → NetState L P → Type 0
-CameBy came.One old new = Rose old.asked new.asked × (length old.given < length new.given)
+CameBy came.One old new = Rose old.asked new.asked × (length old.given < length new.given) × (new.put_off ≡ old.put_off)
 CameBy came.Nobody old new = Rose old.asked new.asked × Rose old.put_off new.put_off
 CameBy came.Failed old new = Unit {0}
 CameBy came.NoMemory old new = Unit {0}
@@ -129,6 +131,20 @@ CameAll came.One old new = Answers old new
 CameAll came.Nobody old new = Answers old new
 CameAll came.Failed old new = Unit {0}
 CameAll came.NoMemory old new = Unit {0}
+
+-- The net was asked until it put off, unless so many came as there was room for beside those that were open, or
+-- all that are to be served were accepted.
+abbrev pub AcceptsAll : {L P : Type 0} → Settings → ℕ → ℕ → NetState L P → NetState L P → Type 0
+AcceptsAll settings open' accepted old new =
+    Rose old.put_off new.put_off ⊎ ((settings.connection_limit + length old.given ≤ open' + length new.given) ⊎
+    (is_below settings.serve_limit accepted ≡ false))
+
+-- the same unless accepting failed
+abbrev pub CameUntil : {L P : Type 0} → Came → Settings → ℕ → ℕ → NetState L P → NetState L P → Type 0
+CameUntil came.One settings open' accepted old new = AcceptsAll settings open' accepted old new
+CameUntil came.Nobody settings open' accepted old new = AcceptsAll settings open' accepted old new
+CameUntil came.Failed settings open' accepted old new = Unit {0}
+CameUntil came.NoMemory settings open' accepted old new = Unit {0}
 
 -- the count of poll and accept rises only where accept failed
 abbrev pub CameCause : Came → ℕ → ℕ → Type 0

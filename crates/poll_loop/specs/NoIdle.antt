@@ -1,9 +1,10 @@
 -- No turn is idle: what a turn does that lets serving go on.
-use Rattle.std.specs.Prelude.{◌≡◌, ◌≤◌, ◌<◌, ◌+◌, ◌⊎◌, ◌&&◌, ℕ, Bool, true, false, IsTrue, List, [], ◌∷◌, ◌++◌, length, map, nat_lt, Option, None, Some, IfSome}
+use Rattle.std.specs.Prelude.{◌≡◌, ◌≤◌, ◌<◌, ◌+◌, ◌⊎◌, ◌&&◌, ℕ, Bool, true, false, IsTrue, List, [], ◌∷◌, ◌++◌, length, map, nat_le, nat_lt, Option, None, Some, IfSome, if◌then◌else◌}
 use Rattle.std.specs.List.{list_any}
-use Rattle.channel.specs.Views.{Heard, LinkGoes, Moves, Seen, Spoke, Steps, Stirs, View, is_done, is_due, is_late, is_writable, want_of}
+use Rattle.channel.specs.Views.{Heard, LinkGoes, Moves, Seen, Spoke, Stamps, Steps, Stirs, View, fresh, is_done, is_due, is_late, is_writable, want_of}
 use Rattle.channel.specs.declared.types.Window.{Window}
 use Rattle.outside.specs.Causes.{Rose, raised}
+use Rattle.outside.specs.Link.{opened}
 use Rattle.outside.specs.Net.{NetState, Poll, asked_of}
 use Rattle.outside.specs.declared.types.Peer.{Peer}
 use Rattle.outside.specs.declared.types.Want.{Want}
@@ -44,6 +45,12 @@ abbrev pub checked_by : ℕ → Option ℕ → ℕ
 checked_by now None = now
 checked_by now (Some moment) = moment
 
+-- the moment from which the next idle check is counted, behind a turn of this moment: this one, where a check
+-- was due
+abbrev pub checked_after : ℕ → Option ℕ → ℕ → Option ℕ
+checked_after now checked interval =
+    Some (if nat_le (checked_by now checked + interval) now then now else checked_by now checked)
+
 -- the server's connections are open on the net, and came and were touched at moments of it
 pub record Hosts {L P A : Type 0} (e : Eyes L P) (net : NetState L P) (lanes : List (Seen L A)) : Type 0 where
   pub room : length lanes ≤ net.live
@@ -67,8 +74,8 @@ abbrev pub kept : List Case → List View
 kept [] = []
 kept (c ∷ cs) = with_kept c.new (kept cs)
 
--- What a turn does to a channel that stays open.
-pub record Serves (w : Window) (ready : Want) (old new : View) : Type 0 where
+-- What a turn of this moment does to a channel that stays open.
+pub record Serves (now : ℕ) (w : Window) (ready : Want) (old new : View) : Type 0 where
   pub key : new.key ≡ old.key
   -- it is retired where it was dead, where it was over, and where its link fails
   pub was_alive : old.shown.dead ≡ None
@@ -81,15 +88,25 @@ pub record Serves (w : Window) (ready : Want) (old new : View) : Type 0 where
   pub stepped : IsTrue (is_due w old.shown) → Steps old.shown new.shown
   -- what still waits to be sent was offered to the link, unless nothing was done
   pub offered : IsTrue (is_writable new.shown) → (new ≡ old) ⊎ Spoke old new
+  -- what is neither ready nor due is left alone, but an idle check sends what waits to be sent
+  pub rested : (ready.read && ready.may_read) ≡ false → (ready.write && ready.may_write) ≡ false → is_due w old.shown ≡ false →
+      (new ≡ old) ⊎ Spoke old new
   -- what rises has its cause
   pub moves : Moves old.shown new.shown
   pub goes : LinkGoes old new
+  -- what came bears the moment of the turn, and so does the last touch where it is new
+  pub stamps : Stamps now old.link new.link
 
 -- Each channel that was open wanted something, had something to do or was over; the poll got its want.
-pub record Asks (w : Window) (c : Case) : Type 0 where
+pub record Asks (now : ℕ) (w : Window) (c : Case) : Type 0 where
   pub wants : asked_of c.ready ≡ want_of w c.old
   pub stirs : Stirs w c.old.shown
-  pub serves : IfSome c.new (λ new. Serves w c.ready c.old new)
+  pub serves : IfSome c.new (λ new. Serves now w c.ready c.old new)
+
+-- A channel that came in a turn of this moment, and to which nothing has happened.
+pub record IsFresh (now : ℕ) (v : View) : Type 0 where
+  pub link : v.link ≡ opened now
+  pub shown : v.shown ≡ fresh now
 
 -- A want that asks nothing tells the net that work is waiting.
 abbrev pub AsksNothing : Want → Type 0
@@ -125,17 +142,27 @@ pub record NoIdle {L P A R : Type 0} (e : Eyes L P) (before now : Serving L A R)
   pub nudge : List Want
   pub asked : poll.wants ≡ map (λ c. c.ready) cases ++ nudge
   pub nudges : Nudges (is_some_due before.settings.window (views e before)) nudge
-  pub each : EachIs (Asks before.settings.window) cases
+  pub each : EachIs (Asks poll.turn.now before.settings.window) cases
   pub came : List View
   pub are : views e now ≡ kept cases ++ came
+  -- whom only an idle check can have looked at
+  pub fresh : EachIs (IsFresh poll.turn.now) came
   -- a channel that was not open comes by an accept
   pub since : List (Peer × P)
   pub given_since : new.given ≡ old.given ++ since
   pub few : length came ≤ length since
   pub answers : IsTrue poll.turn.come → Answers old new
+  -- where somebody came, the net was asked until it put off, unless so many came as there is room for or are to
+  -- be served
+  pub all : IsTrue poll.turn.come → Rose old.put_off new.put_off ⊎
+      ((before.settings.connection_limit ≤ length before.open' + length since) ⊎
+      (is_below before.settings.serve_limit now.accepted ≡ false))
+  -- nobody is accepted whom no poll told
+  pub uncalled : poll.turn.come ≡ false → new.given ≡ old.given
   -- nobody who is left open waited for too long, where an idle check was due
   pub on_time : checked_by poll.turn.now before.checked + before.settings.cleanup_interval ≤ poll.turn.now →
       EachIs (λ v. is_late poll.turn.now before.settings.window v.shown ≡ false) (views e now)
+  pub checked : now.checked ≡ checked_after poll.turn.now before.checked before.settings.cleanup_interval
   -- no more are open than may be, and more are to be served
   pub within : length now.open' ≤ before.settings.connection_limit
   pub unmet : IsTrue (is_below before.settings.serve_limit now.retired)

@@ -84,6 +84,10 @@ pub record Speaks (tells : Bool) (old new : View) : Type 0 where
   pub left : new.shown.left ≡ old.shown.left
   pub was_alive : old.shown.dead ≡ None
 
+-- something is ready or a step is due
+abbrev pub IsCalled : Window → Want → Shown → Type 0
+IsCalled w ready s = (ready.read && ready.may_read) ≡ false → (ready.write && ready.may_write) ≡ false → is_due w s ≡ false → ⊥
+
 -- What a turn does to a channel that stays up; ready is its want as the poll left it.
 pub record Attends (tells : Bool) (w : Window) (ready : Want) (old new : View) : Type 0 where
   pub stays : StaysUp old new
@@ -92,6 +96,8 @@ pub record Attends (tells : Bool) (w : Window) (ready : Want) (old new : View) :
   pub stepped : IsTrue (is_due w old.shown) → Steps old.shown new.shown
   -- what still waits to be sent was offered, unless nothing was done
   pub offered : IsTrue tells → IsTrue (is_writable new.shown) → (new ≡ old) ⊎ Spoke old new
+  -- what is neither ready nor due is left alone
+  pub rested : (ready.read && ready.may_read) ≡ false → (ready.write && ready.may_write) ≡ false → is_due w old.shown ≡ false → new ≡ old
 
 -- An idle check leaves it up, and on time.
 pub record Passes (tells : Bool) (now : ℕ) (w : Window) (old new : View) : Type 0 where
@@ -101,6 +107,9 @@ pub record Passes (tells : Bool) (now : ℕ) (w : Window) (old new : View) : Typ
   pub answered : new.shown.answered ≡ old.shown.answered
   pub left : new.shown.left ≡ old.shown.left
   pub offered : IsTrue tells → IsTrue (is_writable new.shown) → Spoke old new
+  -- it was offered the output, where there is any, and else is left alone
+  pub spoke : IsTrue tells → IsTrue (is_writable old.shown) → Spoke old new
+  pub nothing : is_writable old.shown ≡ false → new ≡ old
 
 -- ---- one seat
 

@@ -1,6 +1,7 @@
 -- A server between two turns.
 use Rattle.std.specs.Prelude.{◌≡◌, ◌≤◌, ◌<◌, ◌+◌, ◌⊎◌, ℕ, All, IsTrue, List, [], false, ◌++◌, filter, length, map, nat_le, vec_capacity, Option, None, Some, Result, Ok, Err}
 use Rattle.channel.specs.Views.{View, is_late}
+use Rattle.outside.specs.Causes.{Rose}
 use Rattle.outside.specs.Net.{NetState}
 use Rattle.outside.specs.declared.types.Peer.{Peer}
 use Rattle.outside.specs.declared.types.Turn.{Turn}
@@ -9,7 +10,7 @@ use Rattle.outside.specs.declared.retired.Retired.{Retired}
 use Rattle.poll_loop.specs.Accounts.{Accounts, Books, IsMet, LastKnows, ServeCause, Stops, books}
 use Rattle.poll_loop.specs.Connections.{CameMore, Counted, IsOpenedBy, SamePolls, is_kept}
 use Rattle.poll_loop.specs.Lists.{EachIs}
-use Rattle.poll_loop.specs.NoIdle.{Answers, Asks, Case, Serving, checked_by, kept, views, who}
+use Rattle.poll_loop.specs.NoIdle.{Answers, Asks, Case, IsFresh, Serving, checked_after, checked_by, kept, views, who}
 use Rattle.poll_loop.specs.Seat.{Eyes, Labours, SeatRests}
 use Rattle.poll_loop.specs.Settings.{AreUsable, is_below}
 use Rattle.poll_loop.specs.declared.seat.Seat.{Seat}
@@ -95,21 +96,31 @@ pub record WorksOff {N A P L M B R S : Type 0} (e : Eyes L B) (now : ℕ) (wants
   pub labours : Labours (nat_le (checked_by now old.checked + old.settings.now.cleanup_interval) now) e now
       old.settings.now.window wants old.connections.seats.items news
   pub kept : new.connections.seats.items ≡ filter is_kept news
+  pub checked : new.checked ≡ checked_after now old.checked old.settings.now.cleanup_interval
 
 -- What a turn does behind its poll, but for what its poll tells.
 pub record Carries {L P A R : Type 0} (e : Eyes L P) (wants : List Want) (turn : Turn) (before now : Serving L A R) (old new : NetState L P) : Type 0 where
   pub cases : List Case
   pub were : map (λ c. c.old) cases ≡ views e before
   pub asked : map (λ c. c.ready) cases ≡ wants
-  pub each : EachIs (Asks before.settings.window) cases
+  pub each : EachIs (Asks turn.now before.settings.window) cases
   pub came : List View
   pub are : views e now ≡ kept cases ++ came
+  pub fresh : EachIs (IsFresh turn.now) came
   pub since : List (Peer × P)
   pub given_since : new.given ≡ old.given ++ since
   pub few : length came ≤ length since
   pub answers : IsTrue turn.come → Answers old new
+  -- where somebody came, the net was asked until it put off, unless so many came as there is room for or are to
+  -- be served
+  pub all : IsTrue turn.come → Rose old.put_off new.put_off ⊎
+      ((before.settings.connection_limit ≤ length before.open' + length since) ⊎
+      (is_below before.settings.serve_limit now.accepted ≡ false))
+  -- nobody is accepted whom no poll told
+  pub uncalled : turn.come ≡ false → new.given ≡ old.given
   pub on_time : checked_by turn.now before.checked + before.settings.cleanup_interval ≤ turn.now →
       EachIs (λ v. is_late turn.now before.settings.window v.shown ≡ false) (views e now)
+  pub checked : now.checked ≡ checked_after turn.now before.checked before.settings.cleanup_interval
   pub within : length now.open' ≤ before.settings.connection_limit
   pub unmet : IsTrue (is_below before.settings.serve_limit now.retired)
   pub polls : SamePolls old new

@@ -1,13 +1,15 @@
 //! From an accept to a seat.
-ghost use Rattle.std.specs.Prelude.{◌≡◌, ◌≤◌, ◌<◌, ◌+◌, ◌&&◌, ◌-◌, ◌^◌, IsTrue, IsSome, IfNone, IfErr, OnOk, OnErr, length, nat_lt, vec_capacity, vec_len};
+ghost use Rattle.std.specs.Prelude.{◌≡◌, ◌≤◌, ◌<◌, ◌+◌, ◌&&◌, ◌-◌, ◌^◌, false, IsTrue, IsSome, IfNone, IfErr, OnOk, OnErr, length, nat_lt, vec_capacity, vec_len};
 ghost use Rattle.channel.specs.Views.{telling};
 ghost use Rattle.outside.specs.Link.{opened};
 ghost use Rattle.poll_loop.specs.Accounts.{Accounts, books};
 ghost use Rattle.poll_loop.specs.Connections.{
+  AcceptsAll,
   CameAll,
   CameBy,
   CameCause,
   CameMore,
+  CameUntil,
   Counted,
   FaultCause,
   HasBroken,
@@ -197,6 +199,8 @@ fn accept_all<'a, N: Net, A: App<P::Spill>, P: Spills>(
         (seated (eyes N.Link.tells N.Link.state N.Link.faults N.Link.key N.Link.plan) connections.new.seats.items)) }
     ensures same_polls { IsTrue N.tells → SamePolls (N.state net.old) (N.state net.new) }
     ensures came { IsTrue N.tells → CameAll result (N.state net.old) (N.state net.new) }
+    ensures all { IsTrue N.tells → CameUntil result opening.now.settings.now (length connections.old.seats.items)
+        connections.new.accepted (N.state net.old) (N.state net.new) }
     ensures cause { CameCause result (N.poll_faults net.old) (N.poll_faults net.new) }
     ensures counted { Counted opening.now.settings.now.serve_limit connections.new.accepted connections.new.retired
         (length connections.new.seats.items) }
@@ -253,6 +257,9 @@ pub(crate) fn accept_if<'a, N: Net, A: App<P::Spill>, P: Spills>(
         (seated (eyes N.Link.tells N.Link.state N.Link.faults N.Link.key N.Link.plan) connections.new.seats.items)) }
     ensures same_polls { IsTrue N.tells → SamePolls (N.state net.old) (N.state net.new) }
     ensures answers { IfNone result (IsTrue come → IsTrue N.tells → Answers (N.state net.old) (N.state net.new)) }
+    ensures all { IfNone result (IsTrue come → IsTrue N.tells → AcceptsAll opening.now.settings.now
+        (length connections.old.seats.items) connections.new.accepted (N.state net.old) (N.state net.new)) }
+    ensures uncalled { come ≡ false → IsTrue N.tells → (N.state net.new).given ≡ (N.state net.old).given }
     ensures cause { FaultCause result (N.poll_faults net.old) (N.poll_faults net.new) }
     ensures counted { Counted opening.now.settings.now.serve_limit connections.new.accepted connections.new.retired
         (length connections.new.seats.items) }

@@ -7,6 +7,7 @@ ghost use Rattle.poll_loop.specs.Seat.{
   DiesAt,
   Goes,
   Hears,
+  IsCalled,
   IsUncalled,
   IsUp,
   OverOr,
@@ -134,6 +135,7 @@ fn converse<'a, L: Link + Drop, A: App<S>, S: Spill + Send + Drop, P: Spills<Spi
     requires send_room { length send_room.old ≡ 65536 }
     requires up { IsUp lane.old.shown }
     requires asks { asked_of ready ≡ want_of lane.old.fixed.window (viewed (eyes L.tells L.state L.faults L.key L.plan) lane.old) }
+    requires called { IsCalled lane.old.fixed.window ready lane.old.shown }
     ensures goes { Goes (eyes L.tells L.state L.faults L.key L.plan) now lane.old lane.new }
     ensures attends { OverOrMarked now lane.old.fixed.window result (viewed (eyes L.tells L.state L.faults L.key L.plan) lane.new) (Attends L.tells lane.old.fixed.window ready (viewed (eyes L.tells L.state L.faults L.key L.plan) lane.old) (viewed (eyes L.tells L.state L.faults L.key L.plan) lane.new)) }
     ensures spills { P.faults spills.new ≡ P.faults spills.old }
@@ -151,7 +153,8 @@ fn converse<'a, L: Link + Drop, A: App<S>, S: Spill + Send + Drop, P: Spills<Spi
 
 // Whether a seat is looked at in a turn.
 fn is_called(ready: Want, mark: Mark) -> bool
-    ensures { result ≡ false → IsUncalled ready mark }
+    ensures uncalled { result ≡ false → IsUncalled ready mark }
+    ensures rested { IsUncalled ready mark → result ≡ false }
 {
     let rests = match mark {
         Mark::Rests => true,

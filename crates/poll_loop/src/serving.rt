@@ -1,6 +1,7 @@
 //! Turns, one after the other.
-ghost use Rattle.std.specs.Prelude.{◌≡◌, ◌≢◌, ◌≤◌, IsTrue, Ok, false, length};
+ghost use Rattle.std.specs.Prelude.{◌≡◌, ◌≢◌, ◌≤◌, ◌⊎◌, [], IsTrue, Ok, false, length};
 ghost use Rattle.channel.specs.Views.{telling};
+ghost use Rattle.outside.specs.Causes.{raised};
 ghost use Rattle.poll_loop.specs.Accounts.{Accounts, LastKnows, ServeCause, ServeEnds, Served};
 ghost use Rattle.poll_loop.specs.Connections.{CameMore, HasBroken, going_on, service_by, shutting_down};
 ghost use Rattle.poll_loop.specs.Entries.{EntryHolds};
@@ -17,7 +18,7 @@ use std::sync::Wait;
 use wsgi::App;
 
 impl<'a, N: Net, A: App<P::Spill>, P: Spills> Server<'a, N, A, P> {
-    /// Makes one turn: polls once, accepts, reads what is ready, makes steps and sends at once what they
+    /// Makes one turn: polls, accepts, reads what is ready, makes steps and sends at once what they
     /// wrote, makes the idle check where it is due, and retires what is over. Where it doesn't answer
     /// `On`, everything that was open is retired.
     pub fn turn(&mut self, net: &mut N, spills: &mut P) -> Result<Going, ServeFault>
@@ -33,7 +34,7 @@ impl<'a, N: Net, A: App<P::Spill>, P: Spills> Server<'a, N, A, P> {
             (booked (eyes N.Link.tells N.Link.state N.Link.faults N.Link.key N.Link.plan) (N.state net.new) (P.faults spills.new) (serving self.new)) }
         ensures knows { result ≡ Ok going.On → IsTrue N.tells → LastKnows (N.state net.new) }
         ensures still { IsTrue N.tells → LastKnows (N.state net.old) → LastKnows (N.state net.new) }
-        ensures came_more { result ≡ Ok going.On → IsTrue N.tells → CameMore (serving self.old).settings.serve_limit
+        ensures came_more { IsTrue N.tells → CameMore (serving self.old).settings.serve_limit
             (serving self.old).accepted (serving self.new).accepted (length (N.state net.old).given) (length (N.state net.new).given) }
         ensures unstopped { result ≡ Ok going.On → IsTrue N.tells → (N.state net.new).stopped ≡ false }
         ensures served { result ≢ Ok going.On → IsTrue N.tells → Served result
@@ -44,6 +45,8 @@ impl<'a, N: Net, A: App<P::Spill>, P: Spills> Server<'a, N, A, P> {
             N.Link.plan
             (booked (eyes N.Link.tells N.Link.state N.Link.faults N.Link.key N.Link.plan) (N.state net.old) (P.faults spills.old) (serving self.old))
             (booked (eyes N.Link.tells N.Link.state N.Link.faults N.Link.key N.Link.plan) (N.state net.new) (P.faults spills.new) (serving self.new)) }
+        ensures shut { result ≢ Ok going.On → (serving self.new).open' ≡ [] }
+        ensures polls { IsTrue N.tells → ((N.state net.new).polls ≡ (N.state net.old).polls) ⊎ ((N.state net.new).polls ≡ raised (N.state net.old).polls) }
         ensures hosts { result ≡ Ok going.On → IsTrue N.tells → Hosts (eyes N.Link.tells N.Link.state N.Link.faults N.Link.key N.Link.plan) (N.state net.new) (serving self.new).open' }
         ensures ends { IsTrue N.tells → ServeEnds result (serving self.old).settings.serve_limit (serving self.old).accepted
             (N.state net.old) (N.state net.new) }
@@ -82,6 +85,9 @@ impl<'a, N: Net, A: App<P::Spill>, P: Spills> Server<'a, N, A, P> {
             N.Link.plan
             (booked (eyes N.Link.tells N.Link.state N.Link.faults N.Link.key N.Link.plan) (N.state net.old) (P.faults spills.old) (serving self.old))
             (booked (eyes N.Link.tells N.Link.state N.Link.faults N.Link.key N.Link.plan) (N.state net.new) (P.faults spills.new) (serving self.new)) }
+        ensures came_more { IsTrue N.tells → CameMore (serving self.old).settings.serve_limit
+            (serving self.old).accepted (serving self.new).accepted (length (N.state net.old).given) (length (N.state net.new).given) }
+        ensures shut { (serving self.new).open' ≡ [] }
         ensures ends { IsTrue N.tells → ServeEnds result (serving self.old).settings.serve_limit (serving self.old).accepted
             (N.state net.old) (N.state net.new) }
         ensures cause { ServeCause result (N.poll_faults net.old) (N.poll_faults net.new) }

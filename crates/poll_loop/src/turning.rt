@@ -1,8 +1,9 @@
 //! One turn.
-ghost use Rattle.std.specs.Prelude.{◌≡◌, ◌≤◌, ◌+◌, false, IsTrue, OnOk, None, length, nat_le, take};
+ghost use Rattle.std.specs.Prelude.{◌≡◌, ◌≤◌, ◌+◌, ◌⊎◌, false, IsTrue, OnOk, None, length, nat_le, take};
 ghost use Rattle.channel.specs.Views.{telling};
+ghost use Rattle.outside.specs.Causes.{raised};
 ghost use Rattle.poll_loop.specs.Accounts.{Accounts, LastKnows};
-ghost use Rattle.poll_loop.specs.Connections.{Gathers, HasBroken, IsAsked, IsNow, OnlyRetires, going_on, service_by, works};
+ghost use Rattle.poll_loop.specs.Connections.{Gathers, HasBroken, IsAsked, IsNow, OnlyRetires, SamePolls, going_on, service_by, works};
 ghost use Rattle.poll_loop.specs.Entries.{EntryHolds};
 ghost use Rattle.poll_loop.specs.Lists.{Paired};
 ghost use Rattle.poll_loop.specs.NoIdle.{Hosts, NoIdle, checked_by, is_accepting};
@@ -164,6 +165,7 @@ impl<'a, N: Net, A: App<P::Spill>, P: Spills> Server<'a, N, A, P> {
             N.Link.plan self.old.settings.now.serve_limit self.old.connections.accepted self.new.connections.accepted
             (booked (eyes N.Link.tells N.Link.state N.Link.faults N.Link.key N.Link.plan) (N.state net.old) (P.faults spills.old) (serving self.old))
             (booked (eyes N.Link.tells N.Link.state N.Link.faults N.Link.key N.Link.plan) (N.state net.new) (P.faults spills.new) (serving self.new)) }
+        ensures same_polls { IsTrue N.tells → SamePolls (N.state net.old) (N.state net.new) }
         ensures cause { StepCause result (N.poll_faults net.old) (N.poll_faults net.new) }
         ensures same { IsSameServer self.old self.new }
         ensures stands { Stands (eyes N.Link.tells N.Link.state N.Link.faults N.Link.key N.Link.plan) A.Run.faults self.new }
@@ -202,6 +204,7 @@ impl<'a, N: Net, A: App<P::Spill>, P: Spills> Server<'a, N, A, P> {
             N.Link.plan self.old.settings.now.serve_limit self.old.connections.accepted self.new.connections.accepted
             (booked (eyes N.Link.tells N.Link.state N.Link.faults N.Link.key N.Link.plan) (N.state net.old) (P.faults spills.old) (serving self.old))
             (booked (eyes N.Link.tells N.Link.state N.Link.faults N.Link.key N.Link.plan) (N.state net.new) (P.faults spills.new) (serving self.new)) }
+        ensures polls { IsTrue N.tells → ((N.state net.new).polls ≡ (N.state net.old).polls) ⊎ ((N.state net.new).polls ≡ raised (N.state net.old).polls) }
         ensures cause { StepCause result (N.poll_faults net.old) (N.poll_faults net.new) }
         ensures same { IsSameServer self.old self.new }
         ensures stands { Stands (eyes N.Link.tells N.Link.state N.Link.faults N.Link.key N.Link.plan) A.Run.faults self.new }

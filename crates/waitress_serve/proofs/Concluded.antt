@@ -1,167 +1,371 @@
 -- What a command leaves of the net, once it has ended.
-use Rattle.std.proofs.Common.{◌≡◌, ◌<◌, ℕ, Bool, true, false, IsTrue, List, [], Option, Some, refl, ap, sym, subst, ◌∙◌, arith, append-nil, inl, inr, ◌⊎◌}
-use Rattle.std.specs.Prelude.{◌&&◌}
+use Rattle.std.proofs.Common.{◌≡◌, ◌≤◌, ◌+◌, ◌⊎◌, inl, inr, ℕ, zero, suc, Bool, true, false, IsTrue, List, [], ◌++◌, length, refl, ap, sym, subst, ◌∙◌, arith, append-nil, length-append}
+use Rattle.std.specs.Prelude.{Option, None, Some, Result, Ok, Err, ◌&&◌}
+use Rattle.std.proofs.lemmas.List.{length-map}
+use Rattle.std.proofs.lemmas.List.Sorted.{IsPermutation-refl, length_permutation}
+use Rattle.adjust.specs.declared.types.Adjustments.{Adjustments}
+use Rattle.channel.specs.Output.{Script}
+use Rattle.channel.specs.Views.{Telling, telling}
+use Rattle.outside.specs.Causes.{Rose, added, raised}
 use Rattle.outside.specs.Link.{LinkState}
 use Rattle.outside.specs.Net.{NetState}
 use Rattle.outside.specs.declared.retired.Retired.{Retired}
 use Rattle.outside.specs.declared.types.Listen.{Listen}
 use Rattle.outside.specs.declared.types.Peer.{Peer}
-use Rattle.waitress_serve.specs.Conclusions.{DoneServesAll, DoneStops, IsDownBy, NetLeaves, Ran}
-use Rattle.waitress_serve.specs.Connection.{HasBroken, Stops}
-use Rattle.waitress_serve.specs.Headline.{Added, EntryHolds, WentDown, spill_faults}
-use Rattle.waitress_serve.specs.Output.{Input, Variables, has_closed, responses, server_with}
+use Rattle.poll_loop.specs.Accounts.{IsMet, LastKnows, NobodyShut, ServeCause, ServeEnds, Served, Stops, books, retired_of}
+use Rattle.poll_loop.specs.Connections.{HasBroken, going_on, service_by, shutting_down}
+use Rattle.poll_loop.specs.Entries.{EntryHolds, Grounds, Service, spill_faults}
+use Rattle.poll_loop.specs.Lists.{EachIs}
+use Rattle.poll_loop.specs.Seat.{Eyes}
+use Rattle.poll_loop.specs.declared.settings.Going.TheVariants as going
+use Rattle.poll_loop.specs.declared.settings.Going.{Going}
+use Rattle.poll_loop.specs.declared.settings.ServeFault.{ServeFault}
+use Rattle.poll_loop.specs.declared.settings.ServeFault.TheVariants as fault
+use Rattle.poll_loop.specs.declared.settings.Settings.{Settings}
+use Rattle.waitress_serve.specs.Completeness.{IsAnswered, IsBrief, IsStill}
+use Rattle.waitress_serve.specs.Conclusions.{AnswersAll, BindCount, DoneAdds, DoneStops, FailsUnstopped, IsDownBy, IsOfServing, NetLeaves, OutCount, OutLeaves, PollCount, Ran, ServedAll, conclusion_of}
+use Rattle.waitress_serve.specs.Headline.{Added, KeepsLimit, RetiresGiven, SettlesSpills, ShutLast, WentDown, grounds}
+use Rattle.waitress_serve.specs.Owed.{owed_by, service_for, service_with}
 use Rattle.waitress_serve.specs.Reports.{Unwritten, Written}
-use Rattle.waitress_serve.specs.Serving.{Served}
-use Rattle.waitress_serve.specs.Status.{Reading, listen_by, serves}
+use Rattle.waitress_serve.specs.Settings.{settings_for}
+use Rattle.waitress_serve.specs.Status.{MeetsLimit, Reading, ToldStop, timeout_by}
 use Rattle.waitress_serve.specs.declared.conclusion.Conclusion.{Conclusion}
 use Rattle.waitress_serve.specs.declared.conclusion.Conclusion.TheVariants as conclusion
-use Rattle.waitress_serve.specs.declared.service.Settings.{Settings}
-use Rattle.wsgi.specs.declared.step.Step.{Step}
-use Rattle.waitress_serve.proofs.Ended.{added_down, nobody_given, nothing_settled, retires_given, serves_all, settles, shut_last}
-use Rattle.waitress_serve.proofs.Entries.{weaker_entry}
-use Rattle.waitress_serve.proofs.Turns.{all_map}
+use Rattle.waitress_serve.proofs.Ends.{answered_end, each_append, each_both, each_front, each_map, each_none, none_spilled, not_shut, weaker_entry}
+
+-- ---- nobody was served
 
 -- nothing was added
 pub nothing_added : {E : Type 0} (Holds : E → Type 0) (old new : List E) → new ≡ old → Added Holds old new
 nothing_added Holds old new same = record { entries = []; whole = same ∙ sym (append-nil old); each = tt }
 
--- nobody was served, behind a bind or none
-pub served_none : {L P : Type 0} (Holds Last : Retired L → Type 0) (plan : L → P) (before now : ℕ) (old new : NetState L P) (bound : Option (List Listen)) →
-    new ≡ record old { bound = bound } → now ≡ before → Served Holds Last plan before now (record old { bound = new.bound }) new
-served_none {L} Holds Last plan before now old new bound is same = record {
-  before = [];
-  after = [];
-  closed = ap (λ s. s.closed) is ∙ sym (append-nil old.closed);
-  spilled = let none : spill_faults {L = L} [] ≡ 0 = refl in omega (arith, none, same);
-  each = tt;
-  last = tt;
-  given = ap (λ s. s.given) is ∙ sym (append-nil old.given);
-  live = ap (λ s. s.live) is;
-  bound = refl;
-  quiet = ap (λ s. s.quiet) is;
-  polls = let p : new.polls ≡ old.polls = ap (λ s. s.polls) is in omega (arith, p);
-  knows = inl (ap (λ s. s.closed) is);
+-- no spill was settled
+pub nothing_settled : {L : Type 0} (old new : List (Retired L)) (before now : ℕ) → new ≡ old → now ≡ before → SettlesSpills before now old new
+nothing_settled {L} old new before now closed same = record {
+  entries = [];
+  whole = closed ∙ sym (append-nil old);
+  counted = let none : spill_faults {L = L} [] ≡ 0 = refl in omega (arith, none, same);
 }
 
--- serving began behind a bind, by settings that are these
-pub served_from : {L P : Type 0} (tells : Bool) (state : L → LinkState) (faults : L → ℕ) (script : Variables → List ℕ → List Step) (broken : Type 0) (plan : L → P) (before now : ℕ) (old mid new : NetState L P) (bound : Option (List Listen)) (one other : Settings) →
-    one ≡ other → mid ≡ record old { bound = bound } →
-    Served (EntryHolds tells state faults new (responses (server_with one script)) (has_closed (server_with one script)) ⊥ broken) (EntryHolds tells state faults new (responses (server_with one script)) (has_closed (server_with one script)) (Unit {0}) broken) plan before now mid new →
-    Served (EntryHolds tells state faults new (responses (server_with other script)) (has_closed (server_with other script)) ⊥ broken) (EntryHolds tells state faults new (responses (server_with other script)) (has_closed (server_with other script)) (Unit {0}) broken) plan before now (record old { bound = new.bound }) new
-served_from tells state faults script broken plan before now old mid new bound one other same is s =
-    let e : mid ≡ record old { bound = new.bound } = is ∙ ap (λ b. record old { bound = b }) (sym (ap (λ s. s.bound) is) ∙ sym s.bound) in
-    let t = subst (λ m. Served (EntryHolds tells state faults new (responses (server_with one script)) (has_closed (server_with one script)) ⊥ broken) (EntryHolds tells state faults new (responses (server_with one script)) (has_closed (server_with one script)) (Unit {0}) broken) plan before now m new) e s in
-    subst (λ settings. Served (EntryHolds tells state faults new (responses (server_with settings script)) (has_closed (server_with settings script)) ⊥ broken) (EntryHolds tells state faults new (responses (server_with settings script)) (has_closed (server_with settings script)) (Unit {0}) broken) plan before now (record old { bound = new.bound }) new) same t
+-- nobody came and nobody was retired
+pub nobody_given : {L P : Type 0} (plan : L → P) (old new : NetState L P) → new.given ≡ old.given → new.closed ≡ old.closed → RetiresGiven plan old new
+nobody_given plan old new given closed = record {
+  given = [];
+  entries = [];
+  came = given ∙ sym (append-nil old.given);
+  retired = closed ∙ sym (append-nil old.closed);
+  same = IsPermutation-refl _;
+}
 
-pub stops_from : {L P : Type 0} (old mid new : NetState L P) (bound : Option (List Listen)) → mid ≡ record old { bound = bound } → Stops mid new → Stops old new
-stops_from old mid new bound is h =
-    let g : Stops (record old { bound = bound }) new = subst (λ m. Stops m new) is h in
-    record { told = record { polled = g.told.polled; stopped = g.told.stopped }; last = g.last; empty = g.empty }
+adds_nothing : {E : Type 0} (Holds : E → Type 0) (c : Conclusion) (old new : List E) → new ≡ old → DoneAdds Holds c old new
+adds_nothing Holds conclusion.Done old new same = nothing_added Holds old new same
+adds_nothing Holds (conclusion.Usage fault) old new same = tt
+adds_nothing Holds conclusion.NotBuilt old new same = tt
+adds_nothing Holds conclusion.BindFailed old new same = tt
+adds_nothing Holds conclusion.Unprinted old new same = tt
+adds_nothing Holds conclusion.PollFailed old new same = tt
+adds_nothing Holds conclusion.NoMemory old new same = tt
 
-stops_bound : {L P : Type 0} (old new : NetState L P) (bound : Option (List Listen)) → Stops old new → Stops (record old { bound = bound }) new
-stops_bound old new bound h = record { told = record { polled = h.told.polled; stopped = h.told.stopped }; last = h.last; empty = h.empty }
+still_unstopped : {L P : Type 0} (c : Conclusion) (old new : NetState L P) → new.stopped ≡ old.stopped → FailsUnstopped c old new
+still_unstopped conclusion.PollFailed old new same = λ stop. subst IsTrue same stop
+still_unstopped conclusion.Done old new same = tt
+still_unstopped (conclusion.Usage fault) old new same = tt
+still_unstopped conclusion.NotBuilt old new same = tt
+still_unstopped conclusion.BindFailed old new same = tt
+still_unstopped conclusion.Unprinted old new same = tt
+still_unstopped conclusion.NoMemory old new same = tt
 
--- what is concluded where somebody may have been served
-module _ {L P : Type 0} (tells weak : Bool) (weaker : IsTrue weak → IsTrue tells) (state : L → LinkState) (faults : L → ℕ) (output : Peer → Input → List ℕ) (closes : Peer → Input → Bool) (broken : Type 0) (breaks : broken → ⊥)
-    (plan : L → P) (before now : ℕ) (old new : NetState L P)
-    (s : Served (EntryHolds tells state faults new output closes ⊥ broken) (EntryHolds tells state faults new output closes (Unit {0}) broken) plan before now (record old { bound = new.bound }) new) where
-  down : (why : Type 0) → why → Added (EntryHolds weak state faults new output closes why ⊥) old.closed new.closed
-  down why d = added_down tells state faults output closes broken plan old (record old { bound = new.bound }) new refl refl refl before now s weak weaker why ⊥ d breaks
+-- nothing was done to the net
+pub stays : {L P : Type 0} (c : Conclusion) (net : NetState L P) → NetLeaves c net net
+stays conclusion.Done net = tt
+stays (conclusion.Usage fault) net = refl
+stays conclusion.NotBuilt net = refl
+stays conclusion.BindFailed net = refl
+stays conclusion.Unprinted net = record { polls = refl; closed = refl }
+stays conclusion.PollFailed net = tt
+stays conclusion.NoMemory net = tt
 
-  headline_by : (c : Conclusion) → NetLeaves c old new → DoneStops c old new → Added (EntryHolds weak state faults new output closes (IsDownBy c old new) ⊥) old.closed new.closed
-  headline_by conclusion.Done net stops = down _ stops.told
-  headline_by (conclusion.Usage fault) net stops = nothing_added _ old.closed new.closed (ap (λ s. s.closed) net)
-  headline_by conclusion.NotBuilt net stops = nothing_added _ old.closed new.closed (ap (λ s. s.closed) net)
-  headline_by conclusion.BindFailed net stops = nothing_added _ old.closed new.closed (ap (λ s. s.closed) net)
-  headline_by conclusion.Unprinted net stops = nothing_added _ old.closed new.closed net.closed
-  headline_by conclusion.PollFailed net stops = down _ tt
-  headline_by conclusion.NoMemory net stops = down _ tt
+-- nothing was done to the net but a bind
+pub ran_none : {L P : Type 0} (service : Service) (broke : Type 0) (e : Eyes L P) (listen : List Listen) (c : Conclusion) (before now : ℕ) (old new : NetState L P)
+    (bound : Option (List Listen)) → new ≡ record old { bound = bound } → now ≡ before → NetLeaves c old new → Ran service broke e listen c before now old new
+ran_none service broke e listen c before now old new bound is same leaves = record {
+  headline = nothing_added _ old.closed new.closed (ap (λ s. s.closed) is);
+  shut_last = inl (ap (λ s. s.closed) is);
+  given = nobody_given e.plan old new (ap (λ s. s.given) is) (ap (λ s. s.closed) is);
+  live = ap (λ s. s.live) is;
+  quiet = ap (λ s. s.quiet) is;
+  bound = λ more. let p : new.polls ≡ old.polls = ap (λ s. s.polls) is in absurd (omega (arith, more, p));
+  settled = nothing_settled old.closed new.closed before now (ap (λ s. s.closed) is) same;
+  net = leaves;
+  unstopped = still_unstopped c old new (ap (λ s. s.stopped) is);
+  complete = λ none told all quiet still brief. adds_nothing _ c old.closed new.closed (ap (λ s. s.closed) is);
+}
 
-  complete_by : (c : Conclusion) → DoneStops c old new → IsTrue old.quiet → DoneServesAll c old new
-  complete_by conclusion.Done stops quiet =
-      serves_all tells state faults output closes broken plan old (record old { bound = new.bound }) new refl refl refl before now s (stops_bound old new new.bound stops) quiet
-  complete_by (conclusion.Usage fault) stops quiet = tt
-  complete_by conclusion.NotBuilt stops quiet = tt
-  complete_by conclusion.BindFailed stops quiet = tt
-  complete_by conclusion.Unprinted stops quiet = tt
-  complete_by conclusion.PollFailed stops quiet = tt
-  complete_by conclusion.NoMemory stops quiet = tt
+-- ---- serving ended
 
-  pub ran : (asked : Reading) (c : Conclusion) → NetLeaves c old new → DoneStops c old new → (old.polls < new.polls → new.bound ≡ Some (listen_by asked)) →
-      (serves asked ≡ false → ⊥) → Ran (λ why. EntryHolds weak state faults new output closes why ⊥) plan asked c before now old new
-  ran asked c net stops bound some = record {
-    headline = headline_by c net stops;
-    shut_last = shut_last tells state faults output closes broken plan old (record old { bound = new.bound }) new refl refl refl before now s;
-    given = retires_given tells state faults output closes broken plan old (record old { bound = new.bound }) new refl refl refl before now s;
-    live = s.live;
-    quiet = s.quiet;
-    bound = bound;
-    settled = settles tells state faults output closes broken plan old (record old { bound = new.bound }) new refl refl refl before now s;
-    net = net;
-    stops = λ _. stops;
-    complete = complete_by c stops;
-    idle = λ none. absurd (some none);
+none_behind : {E : Type 0} (old xs ys : List E) → old ++ (xs ++ ys) ≡ old → length ys ≡ 0
+none_behind old xs ys e =
+    let whole = ap length e in
+    let outer = length-append old (xs ++ ys) in
+    let inner = length-append xs ys in
+    omega (arith, whole, outer, inner)
+
+module _ {L P : Type 0} (service : Service) (broke : Type 0) (e : Eyes L P) (listen : List Listen) (limit : Option ℕ) (before now : ℕ) (old mid new : NetState L P)
+    (is : mid ≡ record old { bound = Some listen }) (result : Result Going ServeFault) (fallen : ℕ) (who : List (Peer × P))
+    (s : Served result (EntryHolds service (going_on broke) e.state e.faults) (EntryHolds service (shutting_down broke) e.state e.faults) e.plan (books mid before 0 []) (books new now fallen who)) where
+  closed_is : new.closed ≡ old.closed ++ (s.before ++ s.after)
+  closed_is = s.closed ∙ ap (λ m. m.closed ++ (s.before ++ s.after)) is
+
+  given_is : new.given ≡ old.given ++ s.since
+  given_is = s.given ∙ ap (λ m. m.given ++ s.since) is
+
+  live_is : new.live ≡ old.live
+  live_is =
+      let here = s.live in
+      let there : mid.live ≡ old.live = ap (λ m. m.live) is in
+      omega (arith, here, there)
+
+  -- why those that were shut down were
+  stopped_for : Stops mid new → ToldStop old new
+  stopped_for stops = record { polled = subst (λ m. Rose m.polls new.polls) is stops.polled; stopped = stops.stopped }
+
+  last_by : (r : Result Going ServeFault) → NobodyShut r s.after → ServeEnds r limit 0 mid new →
+      EachIs (EntryHolds service (grounds (IsDownBy (conclusion_of r) old new) broke) e.state e.faults new) s.after
+  last_by (Ok going.Stopped) nobody ends =
+      each_map _ _ (weaker_entry service (shutting_down broke) (grounds (ToldStop old new) broke) (λ _. stopped_for ends) (λ b. b) e.state e.faults new) s.after s.last
+  last_by (Ok going.LimitMet) nobody ends = subst (EachIs _) (sym nobody) tt
+  last_by (Ok going.On) nobody ends = absurd nobody
+  last_by (Err fault.Net) nobody ends = s.last
+  last_by (Err fault.NoMemory) nobody ends = s.last
+
+  headline : ServeEnds result limit 0 mid new → Added (EntryHolds service (grounds (IsDownBy (conclusion_of result) old new) broke) e.state e.faults new) old.closed new.closed
+  headline ends = record {
+    entries = s.before ++ s.after;
+    whole = closed_is;
+    each = each_append _ s.before s.after
+        (each_map _ _ (weaker_entry service (going_on broke) (grounds (IsDownBy (conclusion_of result) old new) broke) (λ never. absurd never) (λ b. b) e.state e.faults new) s.before s.each)
+        (last_by result s.nobody ends);
   }
 
--- a conclusion under which nothing is done to the net
-pub stays : {L P : Type 0} (c : Conclusion) (old : NetState L P) → NetLeaves c old old
-stays conclusion.Done old = tt
-stays (conclusion.Usage fault) old = refl
-stays conclusion.NotBuilt old = refl
-stays conclusion.BindFailed old = refl
-stays conclusion.Unprinted old = record { polls = refl; closed = refl }
-stays conclusion.PollFailed old = tt
-stays conclusion.NoMemory old = tt
+  shut_last_known : LastKnows (record new { live = new.live + length s.after }) → ShutLast old new
+  shut_last_known k =
+      let o = k.open' in
+      let l = live_is in
+      record {
+        poll = k.poll;
+        last = k.last;
+        accepted = k.accepted;
+        before = s.before;
+        after = s.after;
+        whole = closed_is;
+        earlier = each_map _ _ (λ entry h. not_shut service broke new (e.state entry.link) (e.faults entry.link) _ entry.end h.cause) s.before s.each;
+        shut = s.shut;
+        were_open = omega (arith, o, l);
+      }
 
-pub stays_complete : {L P : Type 0} (c : Conclusion) (old : NetState L P) → DoneServesAll c old old
-stays_complete conclusion.Done old = record { entries = []; whole = sym (append-nil old.closed); none_is_shut = tt }
-stays_complete (conclusion.Usage fault) old = tt
-stays_complete conclusion.NotBuilt old = tt
-stays_complete conclusion.BindFailed old = tt
-stays_complete conclusion.Unprinted old = tt
-stays_complete conclusion.PollFailed old = tt
-stays_complete conclusion.NoMemory old = tt
+  shut_last : (new.closed ≡ old.closed) ⊎ ShutLast old new
+  shut_last = elim (s.knows (inl refl)) [ inl same ↦ inl (same ∙ ap (λ m. m.closed) is) | inr k ↦ inr (shut_last_known k) ]
 
-not_both : (b : Bool) → b ≡ false → IsTrue b → ⊥
-not_both false none some = cc
-not_both true none some = cc
+  given : RetiresGiven e.plan old new
+  given = record { given = s.since; entries = s.before ++ s.after; came = given_is; retired = closed_is; same = s.same }
 
--- what is concluded where nothing was done to the net
-pub ran_none : {L P : Type 0} (Holds : Type 0 → Retired L → Type 0) (plan : L → P) (asked : Reading) (c : Conclusion) (before now : ℕ) (old : NetState L P) → now ≡ before →
-    serves asked ≡ false → Ran Holds plan asked c before now old old
-ran_none Holds plan asked c before now old same none = record {
-  headline = nothing_added _ old.closed old.closed refl;
-  shut_last = inl refl;
-  given = nobody_given plan old old refl refl;
-  live = refl;
-  quiet = refl;
-  bound = λ more. absurd (omega (arith, more));
-  settled = nothing_settled old.closed old.closed before now refl same;
-  net = stays c old;
-  stops = λ some. absurd (not_both (serves asked) none some);
-  complete = λ quiet. stays_complete c old;
-  idle = λ _. refl;
-}
+  -- where a quiet net told to stop, nothing was open
+  nothing_known : LastKnows (record new { live = new.live + length s.after }) → Stops mid new → IsTrue mid.quiet → length s.after ≡ 0
+  nothing_known k stops quiet =
+      let last : k.poll ≡ stops.poll = cc (k.last, stops.last) in
+      let empty : k.poll.live ≡ 0 = ap (λ p. p.live) last ∙ stops.empty quiet in
+      let same : length k.poll.given ≡ length new.given = ap (λ p. length p.given) last ∙ ap length (sym stops.given) in
+      let o = k.open' in
+      omega (arith, o, empty, same)
+
+  nobody_by : (r : Result Going ServeFault) → NobodyShut r s.after → ServeEnds r limit 0 mid new → conclusion_of r ≡ conclusion.Done → IsTrue mid.quiet → length s.after ≡ 0
+  nobody_by (Ok going.Stopped) nobody ends done quiet =
+      elim (s.knows (inl refl)) [ inl same ↦ none_behind mid.closed s.before s.after (sym s.closed ∙ same) | inr k ↦ nothing_known k ends quiet ]
+  nobody_by (Ok going.LimitMet) nobody ends done quiet = ap length nobody
+  nobody_by (Ok going.On) nobody ends done quiet = absurd nobody
+  nobody_by (Err fault.Net) nobody ends done quiet = cc
+  nobody_by (Err fault.NoMemory) nobody ends done quiet = cc
+
+  none_spilled_of : IsStill before now → spill_faults (s.before ++ s.after) ≡ 0
+  none_spilled_of still = by (spill_faults (s.before ++ s.after)) s.spilled
+    where
+      by : (n : ℕ) → added before n ≤ now → n ≡ 0
+      by zero counted = refl
+      by (suc n) counted = let rose : raised before ≤ now = omega (arith, counted) in absurd (still rose)
+
+  -- where nothing happened, each was answered
+  answered : (r : Result Going ServeFault) → NobodyShut r s.after → ServeEnds r limit 0 mid new → conclusion_of r ≡ conclusion.Done →
+      (broke → ⊥) → IsTrue service.tells.link → IsTrue service.tells.all → IsTrue old.quiet → IsStill before now → IsBrief service.timeout new →
+      Added (IsAnswered e.state e.faults service.owed) old.closed new.closed
+  answered r nobody ends done none told all quiet still brief =
+      let unspilled = none_spilled (s.before ++ s.after) (none_spilled_of still) in
+      record {
+        entries = s.before ++ s.after;
+        whole = closed_is;
+        each = each_append _ s.before s.after
+            (each_both _ _ _ (λ entry h unspilt faultless. answered_end service broke new none told all brief (e.state entry.link) (e.faults entry.link) _ entry.end h.timely h.cause unspilt faultless)
+            s.before s.each (each_front _ s.before s.after unspilled))
+            (each_none _ s.after (nobody_by r nobody ends done (subst (λ m. IsTrue m.quiet) (sym is) quiet)));
+      }
+
+  complete : (r : Result Going ServeFault) → NobodyShut r s.after → ServeEnds r limit 0 mid new → AnswersAll service broke e (conclusion_of r) before now old new
+  complete (Ok going) nobody ends = answered (Ok going) nobody ends refl
+  complete (Err fault.Net) nobody ends = λ none told all quiet still brief. tt
+  complete (Err fault.NoMemory) nobody ends = λ none told all quiet still brief. tt
+
+  unstopped : (r : Result Going ServeFault) → ServeEnds r limit 0 mid new → FailsUnstopped (conclusion_of r) old new
+  unstopped (Ok going) ends = tt
+  unstopped (Err fault.Net) ends = λ stop. subst (λ m. IsTrue m.stopped) is (ends stop)
+  unstopped (Err fault.NoMemory) ends = tt
+
+  leaves : (r : Result Going ServeFault) → NetLeaves (conclusion_of r) old new
+  leaves (Ok going) = tt
+  leaves (Err fault.Net) = tt
+  leaves (Err fault.NoMemory) = tt
+
+  ran : ServeEnds result limit 0 mid new → Ran service broke e listen (conclusion_of result) before now old new
+  ran ends = record {
+    headline = headline ends;
+    shut_last = shut_last;
+    given = given;
+    live = live_is;
+    quiet = s.quiet ∙ ap (λ m. m.quiet) is;
+    bound = λ more. s.bound ∙ ap (λ m. m.bound) is;
+    settled = record { entries = s.before ++ s.after; whole = closed_is; counted = s.spilled };
+    net = leaves result;
+    unstopped = unstopped result ends;
+    complete = complete result s.nobody ends;
+  }
+
+  met : IsMet limit 0 mid new → MeetsLimit limit old new
+  met m =
+      let counted = m.met in
+      let begun : length mid.given ≡ length old.given = ap (λ n. length n.given) is in
+      let came = ap length given_is ∙ length-append old.given s.since in
+      let went = ap length closed_is ∙ length-append old.closed (s.before ++ s.after) in
+      let same = length_permutation s.since (retired_of e.plan (s.before ++ s.after)) s.same in
+      let each = length-map {B = Peer × P} (s.before ++ s.after) (λ entry. (entry.peer, e.plan entry.link)) in
+      record {
+        count = m.count;
+        limited = m.limited;
+        came = omega (arith, counted, begun);
+        went = omega (arith, counted, begun, came, went, same, each);
+      }
+
+  stops_by : (r : Result Going ServeFault) → NobodyShut r s.after → ServeEnds r limit 0 mid new → DoneStops limit (conclusion_of r) old new
+  stops_by (Ok going.Stopped) nobody ends = inl (record {
+    stopped = ends.stopped;
+    polled = subst (λ m. Rose m.polls new.polls) is ends.polled;
+    poll = ends.poll;
+    last = ends.last;
+    told = ends.told;
+    given = ends.given;
+    empty = λ quiet. ends.empty (subst (λ m. IsTrue m.quiet) (sym is) quiet);
+  })
+  stops_by (Ok going.LimitMet) nobody ends = inr (met ends.0)
+  stops_by (Ok going.On) nobody ends = absurd nobody
+  stops_by (Err fault.Net) nobody ends = tt
+  stops_by (Err fault.NoMemory) nobody ends = tt
+
+  stops : ServeEnds result limit 0 mid new → DoneStops limit (conclusion_of result) old new
+  stops ends = stops_by result s.nobody ends
+
+-- a server with these options served, behind a bind
+module _ {L P A : Type 0} (tells : Telling) (script : A → Script) (app : A) (options : Adjustments) (broke : Type 0) (e : Eyes L P) (listen : List Listen)
+    (before now : ℕ) (old mid new : NetState L P) (is : mid ≡ record old { bound = Some listen }) (result : Result Going ServeFault)
+    (c : Conclusion) (concludes : c ≡ conclusion_of result) (settings : Settings) (by : settings ≡ settings_for options)
+    (all : ServedAll result (service_by tells script settings app) broke e before now mid new) (ends : ServeEnds result settings.serve_limit 0 mid new) where
+  all_by : ServedAll result (service_by tells script (settings_for options) app) broke e before now mid new
+  all_by = subst (λ x. ServedAll result (service_by tells script x app) broke e before now mid new) by all
+
+  ends_by : ServeEnds result options.serve_limit 0 mid new
+  ends_by = subst (λ x. ServeEnds result x.serve_limit 0 mid new) by ends
+
+  pub started_ran : Ran (service_with tells options (script app)) broke e listen c before now old new
+  started_ran = subst (λ x. Ran (service_with tells options (script app)) broke e listen x before now old new) (sym concludes)
+      (ran (service_with tells options (script app)) broke e listen options.serve_limit before now old mid new is result all_by.fallen all_by.who all_by.served ends_by)
+
+  pub started_stops : DoneStops options.serve_limit c old new
+  started_stops = subst (λ x. DoneStops options.serve_limit x old new) (sym concludes)
+      (stops (service_with tells options (script app)) broke e listen options.serve_limit before now old mid new is result all_by.fallen all_by.who all_by.served ends_by)
+
+-- ---- counts, by how serving ended
+
+pub is_of_serving : (r : Result Going ServeFault) → IsOfServing (conclusion_of r)
+is_of_serving (Ok going) = tt
+is_of_serving (Err fault.Net) = tt
+is_of_serving (Err fault.NoMemory) = tt
+
+pub bind_count : (r : Result Going ServeFault) (before now : ℕ) → now ≡ before → BindCount (conclusion_of r) before now
+bind_count (Ok going) before now same = same
+bind_count (Err fault.Net) before now same = same
+bind_count (Err fault.NoMemory) before now same = same
+
+pub poll_count : (r : Result Going ServeFault) (before now : ℕ) → ServeCause r before now → PollCount (conclusion_of r) before now
+poll_count (Ok going) before now cause = cause
+poll_count (Err fault.Net) before now cause = cause
+poll_count (Err fault.NoMemory) before now cause = cause
+
+pub out_count : (r : Result Going ServeFault) (before now : ℕ) → now ≡ before → OutCount (conclusion_of r) before now
+out_count (Ok going) before now same = same
+out_count (Err fault.Net) before now same = same
+out_count (Err fault.NoMemory) before now same = same
+
+pub out_leaves : (text : List ℕ) (r : Result Going ServeFault) (old new : List ℕ) → new ≡ old ++ text → OutLeaves text (conclusion_of r) old new
+out_leaves text (Ok going) old new whole = whole
+out_leaves text (Err fault.Net) old new whole = whole
+out_leaves text (Err fault.NoMemory) old new whole = inr whole
+
+-- ---- weaker grounds
 
 -- runs that never fail break nothing
 pub none_broke : {R : Type 0} → HasBroken {R = R} (λ _. 0) → ⊥
 none_broke h = let some = h.1 in omega (arith, some)
 
-pub and_twice : (a b : Bool) → IsTrue (a && b) → IsTrue (a && (b && b))
-and_twice true true h = refl
-and_twice true false h = h
-and_twice false b h = h
-
--- a weaker cause of going down
-pub added_for : {L P : Type 0} (tells : Bool) (state : L → LinkState) (faults : L → ℕ) (net : NetState L P) (output : Peer → Input → List ℕ) (closes : Peer → Input → Bool) (one other broken : Type 0) → (one → other) → (old new : List (Retired L)) →
-    Added (EntryHolds tells state faults net output closes one broken) old new → Added (EntryHolds tells state faults net output closes other broken) old new
-added_for tells state faults net output closes one other broken weaker old new a = record {
+pub added_for : {L P : Type 0} (service : Service) (g h : Grounds) → (g.shutdown → h.shutdown) → (g.broke → h.broke) →
+    (state : L → LinkState) (faults : L → ℕ) (net : NetState L P) (old new : List (Retired L)) →
+    Added (EntryHolds service g state faults net) old new → Added (EntryHolds service h state faults net) old new
+added_for service g h downs breaks state faults net old new a = record {
   entries = a.entries;
   whole = a.whole;
-  each = all_map _ _ (weaker_entry tells tells state faults net output closes one other broken broken (λ t. t) weaker (λ b. b)) a.entries a.each;
+  each = each_map _ _ (weaker_entry service g h downs breaks state faults net) a.entries a.each;
 }
+
+-- no run of the application can break
+pub ran_unbroken : {L P : Type 0} (service : Service) (broke : Type 0) (none : broke → ⊥) (e : Eyes L P) (listen : List Listen) (c : Conclusion) (before now : ℕ) (old new : NetState L P) →
+    Ran service broke e listen c before now old new → Ran service ⊥ e listen c before now old new
+ran_unbroken service broke none e listen c before now old new r = record {
+  headline = added_for service (grounds (IsDownBy c old new) broke) (grounds (IsDownBy c old new) ⊥) (λ d. d) none e.state e.faults new old.closed new.closed r.headline;
+  shut_last = r.shut_last;
+  given = r.given;
+  live = r.live;
+  quiet = r.quiet;
+  bound = r.bound;
+  settled = r.settled;
+  net = r.net;
+  unstopped = r.unstopped;
+  complete = λ never. r.complete none;
+}
+
+all_tell : (links spills : Bool) → IsTrue links → IsTrue spills → IsTrue (links && (spills && spills))
+all_tell true true link spill = refl
+all_tell true false link spill = spill
+all_tell false spills link spill = link
+
+-- what is asked for was read
+pub read_complete : {L P : Type 0} (links spills : Bool) (asked read : Reading) → asked ≡ read → (e : Eyes L P) (listen : List Listen) (c : Conclusion) (before now : ℕ) (old new : NetState L P) →
+    Ran (service_for (telling links spills spills) read) ⊥ e listen c before now old new → IsTrue links → IsTrue spills → IsTrue old.quiet → IsStill before now →
+    IsBrief (timeout_by asked) new → DoneAdds (IsAnswered e.state e.faults (owed_by asked)) c old.closed new.closed
+read_complete links spills asked read is e listen c before now old new r link spill quiet still =
+    subst (λ a. IsBrief (timeout_by a) new → DoneAdds (IsAnswered e.state e.faults (owed_by a)) c old.closed new.closed) (sym is)
+    (r.complete (λ never. never) link (all_tell links spills link spill) quiet still)
 
 -- why the whole server went down, where a report says so
 pub report_down : {L P : Type 0} (status result : ℕ) (old new : NetState L P) (before now : ℕ) → (status ≡ 4) ⊎ (status ≡ 5) → Written status result before now ⊎ Unwritten result before now → WentDown result old new before now
 report_down status result old new before now four h =
     elim h [ inl w ↦ elim four [ inl e ↦ inr (inl (w.status_is ∙ e)) | inr e ↦ inr (inr (inl (w.status_is ∙ e))) ] | inr w ↦ inr (inr (inr (w.six, w.rose))) ]
+
+-- nobody came
+pub keeps_same : {L P : Type 0} (limit : Option ℕ) (old new : NetState L P) → new.given ≡ old.given → KeepsLimit limit old new
+keeps_same None old new e = tt
+keeps_same (Some limit) old new e = let n = ap length e in omega (arith, n)

@@ -1,11 +1,5 @@
-mod Answering
+mod Completing
 mod Concluded
-mod Ended
-mod Entries
-mod Pieces
-mod Polling
-mod Respond
+mod Ends
+mod Growing
 mod TextLemmas
-mod Timely
-mod Turns
-mod Unstopped

@@ -1,11 +1,19 @@
 -- Internal: what a command leaves, by how it ended.
-use Rattle.std.specs.Prelude.{◌≡◌, ◌<◌, ℕ, Bool, ◌⊎◌, ◌||◌, true, false, IsTrue, List, ◌++◌, Some, Err}
+use Rattle.std.specs.Prelude.{◌≡◌, ◌<◌, ℕ, ◌⊎◌, ◌||◌, true, false, IsTrue, List, [], ◌++◌, Option, Some, Result, Ok, Err}
 use Rattle.outside.specs.Causes.{Rose}
 use Rattle.outside.specs.Net.{NetState}
-use Rattle.outside.specs.declared.retired.Retired.{Retired}
-use Rattle.waitress_serve.specs.Connection.{Stops}
-use Rattle.waitress_serve.specs.Headline.{Added, RetiresGiven, ServesAll, SettlesSpills, ShutLast}
-use Rattle.waitress_serve.specs.Status.{IsUnstopped, Reading, ToldStop, WritesPart, is_faulty, is_unbuilt, listen_by, prints, serves}
+use Rattle.outside.specs.declared.types.Listen.{Listen}
+use Rattle.outside.specs.declared.types.Peer.{Peer}
+use Rattle.poll_loop.specs.Accounts.{Served, Stops, books}
+use Rattle.poll_loop.specs.Connections.{going_on, shutting_down}
+use Rattle.poll_loop.specs.Entries.{EntryHolds, Service}
+use Rattle.poll_loop.specs.Seat.{Eyes}
+use Rattle.poll_loop.specs.declared.settings.Going.{Going}
+use Rattle.poll_loop.specs.declared.settings.ServeFault.{ServeFault}
+use Rattle.poll_loop.specs.declared.settings.ServeFault.TheVariants as fault
+use Rattle.waitress_serve.specs.Completeness.{IsAnswered, IsBrief, IsStill}
+use Rattle.waitress_serve.specs.Headline.{Added, RetiresGiven, SettlesSpills, ShutLast, grounds}
+use Rattle.waitress_serve.specs.Status.{MeetsLimit, Reading, ToldStop, WritesPart, is_faulty, is_unbuilt, prints, serves}
 use Rattle.waitress_serve.specs.declared.conclusion.Conclusion.{Conclusion}
 use Rattle.waitress_serve.specs.declared.conclusion.Conclusion.TheVariants as conclusion
 
@@ -17,7 +25,7 @@ pub record Works (asked : Reading) : Type 0 where
   pub faultless : is_faulty asked ≡ false
   pub built : is_unbuilt asked ≡ false
 
-pub record Serves (asked : Reading) : Type 0 where
+pub record IsServing (asked : Reading) : Type 0 where
   pub serves_is : serves asked ≡ true
   pub faultless : is_faulty asked ≡ false
   pub built : is_unbuilt asked ≡ false
@@ -30,9 +38,9 @@ abbrev pub Concludes : Reading → Conclusion → Type 0
 Concludes asked conclusion.Done = Works asked
 Concludes asked (conclusion.Usage fault) = asked ≡ Err fault
 Concludes asked conclusion.NotBuilt = IsUnbuilt asked
-Concludes asked conclusion.BindFailed = Serves asked
+Concludes asked conclusion.BindFailed = IsServing asked
 Concludes asked conclusion.Unprinted = Works asked
-Concludes asked conclusion.PollFailed = Serves asked
+Concludes asked conclusion.PollFailed = IsServing asked
 Concludes asked conclusion.NoMemory = Unit {0}
 
 -- serving never ends as words that are a fault, or that ask for what isn't built
@@ -84,19 +92,19 @@ NetLeaves conclusion.Unprinted old new = ServesNobody old new
 NetLeaves conclusion.PollFailed old new = Unit {0}
 NetLeaves conclusion.NoMemory old new = Unit {0}
 
--- where serving is done, a poll told to stop
-abbrev pub DoneStops : {L P : Type 0} → Conclusion → NetState L P → NetState L P → Type 0
-DoneStops conclusion.Done old new = Stops old new
-DoneStops (conclusion.Usage fault) old new = Unit {0}
-DoneStops conclusion.NotBuilt old new = Unit {0}
-DoneStops conclusion.BindFailed old new = Unit {0}
-DoneStops conclusion.Unprinted old new = Unit {0}
-DoneStops conclusion.PollFailed old new = Unit {0}
-DoneStops conclusion.NoMemory old new = Unit {0}
+-- where serving is done, the last poll told to stop, or the serve limit was met
+abbrev pub DoneStops : {L P : Type 0} → Option ℕ → Conclusion → NetState L P → NetState L P → Type 0
+DoneStops limit conclusion.Done old new = Stops old new ⊎ MeetsLimit limit old new
+DoneStops limit (conclusion.Usage fault) old new = Unit {0}
+DoneStops limit conclusion.NotBuilt old new = Unit {0}
+DoneStops limit conclusion.BindFailed old new = Unit {0}
+DoneStops limit conclusion.Unprinted old new = Unit {0}
+DoneStops limit conclusion.PollFailed old new = Unit {0}
+DoneStops limit conclusion.NoMemory old new = Unit {0}
 
--- where a poll or an accept failed, none has told to stop since
-abbrev pub FailsUnstopped : Conclusion → Bool → Bool → Type 0
-FailsUnstopped conclusion.PollFailed old new = IsUnstopped old new
+-- where a poll or an accept failed, none has told to stop
+abbrev pub FailsUnstopped : {L P : Type 0} → Conclusion → NetState L P → NetState L P → Type 0
+FailsUnstopped conclusion.PollFailed old new = IsTrue new.stopped → IsTrue old.stopped
 FailsUnstopped conclusion.Done old new = Unit {0}
 FailsUnstopped (conclusion.Usage fault) old new = Unit {0}
 FailsUnstopped conclusion.NotBuilt old new = Unit {0}
@@ -104,14 +112,15 @@ FailsUnstopped conclusion.BindFailed old new = Unit {0}
 FailsUnstopped conclusion.Unprinted old new = Unit {0}
 FailsUnstopped conclusion.NoMemory old new = Unit {0}
 
-abbrev pub DoneServesAll : {L P : Type 0} → Conclusion → NetState L P → NetState L P → Type 0
-DoneServesAll conclusion.Done old new = ServesAll old.closed new.closed
-DoneServesAll (conclusion.Usage fault) old new = Unit {0}
-DoneServesAll conclusion.NotBuilt old new = Unit {0}
-DoneServesAll conclusion.BindFailed old new = Unit {0}
-DoneServesAll conclusion.Unprinted old new = Unit {0}
-DoneServesAll conclusion.PollFailed old new = Unit {0}
-DoneServesAll conclusion.NoMemory old new = Unit {0}
+-- where serving is done, each that was retired is so
+abbrev pub DoneAdds : {E : Type 0} → (E → Type 0) → Conclusion → List E → List E → Type 0
+DoneAdds Holds conclusion.Done old new = Added Holds old new
+DoneAdds Holds (conclusion.Usage fault) old new = Unit {0}
+DoneAdds Holds conclusion.NotBuilt old new = Unit {0}
+DoneAdds Holds conclusion.BindFailed old new = Unit {0}
+DoneAdds Holds conclusion.Unprinted old new = Unit {0}
+DoneAdds Holds conclusion.PollFailed old new = Unit {0}
+DoneAdds Holds conclusion.NoMemory old new = Unit {0}
 
 -- the whole server went down
 abbrev pub IsDownBy : {L P : Type 0} → Conclusion → NetState L P → NetState L P → Type 0
@@ -145,18 +154,41 @@ OutLeaves text conclusion.NoMemory old new = (new ≡ old) ⊎ (new ≡ old ++ t
 
 -- ---- all that it leaves of a net that tells
 
--- Holds is what holds of each entry, by why the whole server went down; before and now are the
--- counts of the spills.
-pub record Ran {L P : Type 0} (Holds : Type 0 → Retired L → Type 0) (plan : L → P) (asked : Reading)
+-- Where nothing happened to a quiet net, serving answered all: no run breaks, all tells, no spill failed,
+-- and no longer went by than the timeout.
+abbrev pub AnswersAll : {L P : Type 0} → Service → Type 0 → Eyes L P → Conclusion → ℕ → ℕ → NetState L P → NetState L P → Type 0
+AnswersAll service broke e conclusion before now old new =
+    (broke → ⊥) → IsTrue service.tells.link → IsTrue service.tells.all → IsTrue old.quiet → IsStill before now →
+    IsBrief service.timeout new →
+    DoneAdds (IsAnswered e.state e.faults service.owed) conclusion old.closed new.closed
+
+-- before and now are the counts of the spills
+pub record Ran {L P : Type 0} (service : Service) (broke : Type 0) (e : Eyes L P) (listen : List Listen)
     (conclusion : Conclusion) (before now : ℕ) (old new : NetState L P) : Type 0 where
-  pub headline : Added (Holds (IsDownBy conclusion old new)) old.closed new.closed
+  pub headline : Added (EntryHolds service (grounds (IsDownBy conclusion old new) broke) e.state e.faults new)
+      old.closed new.closed
   pub shut_last : (new.closed ≡ old.closed) ⊎ ShutLast old new
-  pub given : RetiresGiven plan old new
+  pub given : RetiresGiven e.plan old new
   pub live : new.live ≡ old.live
   pub quiet : new.quiet ≡ old.quiet
-  pub bound : old.polls < new.polls → new.bound ≡ Some (listen_by asked)
+  pub bound : old.polls < new.polls → new.bound ≡ Some listen
   pub settled : SettlesSpills before now old.closed new.closed
   pub net : NetLeaves conclusion old new
-  pub stops : IsTrue (serves asked) → DoneStops conclusion old new
-  pub complete : IsTrue old.quiet → DoneServesAll conclusion old new
-  pub idle : serves asked ≡ false → new ≡ old
+  pub unstopped : FailsUnstopped conclusion old new
+  pub complete : AnswersAll service broke e conclusion before now old new
+
+-- ---- how serving ended
+
+abbrev pub conclusion_of : Result Going ServeFault → Conclusion
+conclusion_of (Ok going) = conclusion.Done
+conclusion_of (Err fault.Net) = conclusion.PollFailed
+conclusion_of (Err fault.NoMemory) = conclusion.NoMemory
+
+-- Serving ended that began while nobody was open.
+pub record ServedAll {L P : Type 0} (result : Result Going ServeFault) (service : Service) (broken : Type 0) (e : Eyes L P)
+    (before now : ℕ) (old new : NetState L P) : Type 0 where
+  pub fallen : ℕ
+  pub who : List (Peer × P)
+  pub served : Served result (EntryHolds service (going_on broken) e.state e.faults)
+      (EntryHolds service (shutting_down broken) e.state e.faults)
+      e.plan (books old before 0 []) (books new now fallen who)

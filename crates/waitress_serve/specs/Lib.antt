@@ -1,11 +1,7 @@
+pub mod Completeness
 pub mod Conclusions
-pub mod Connection
-pub mod Echo
-pub mod EchoLaw
 pub mod Headline
-pub mod Output
+pub mod Owed
 pub mod Reports
-pub mod Responding
-pub mod Serving
 pub mod Settings
 pub mod Status

@@ -1,8 +1,6 @@
 -- What a server goes by.
-use Rattle.proxy_trust.specs.Rules.{IsSound}
 use Rattle.adjust.specs.declared.types.Adjustments.{Adjustments}
-use Rattle.request_stream.specs.Reading.{ArePositive}
-use Rattle.waitress_serve.specs.declared.service.Settings.{Settings}
+use Rattle.poll_loop.specs.declared.settings.Settings.{Settings}
 
 -- what a server with these options goes by
 abbrev pub settings_for : Adjustments → Settings
@@ -11,6 +9,13 @@ settings_for options = record {
     max_head = options.max_request_header_size;
     max_body = options.max_request_body_size;
     inbuf_overflow = options.inbuf_overflow;
+  };
+  window = record {
+    recv_bytes = options.recv_bytes;
+    outbuf_overflow = options.outbuf_overflow;
+    high_watermark = options.outbuf_high_watermark;
+    lookahead = options.channel_request_lookahead;
+    timeout = options.channel_timeout;
   };
   site = record {
     server_name = options.server_name;
@@ -24,9 +29,7 @@ settings_for options = record {
       clear = options.clear_untrusted_proxy_headers;
     };
   };
+  connection_limit = options.connection_limit;
+  cleanup_interval = options.cleanup_interval;
+  serve_limit = options.serve_limit;
 }
-
--- a request can be read by the limits, and the rules on proxies are sound
-pub record IsUsable (settings : Settings) : Type 0 where
-  pub positive : ArePositive settings.limits
-  pub sound : IsSound settings.site.rules

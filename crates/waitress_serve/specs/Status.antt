@@ -1,5 +1,5 @@
 -- The statuses of the program, their causes and their texts.
-use Rattle.std.specs.Prelude.{◌≡◌, ◌⊎◌, ℕ, Bool, true, false, IsTrue, List, [], ◌∷◌, ◌++◌, ◌||◌, take, IsSomeAnd, if◌then◌else◌, nat_eq, codes, Result, Ok, Err}
+use Rattle.std.specs.Prelude.{◌≡◌, ◌+◌, ℕ, Bool, true, false, IsTrue, List, [], ◌∷◌, ◌++◌, ◌||◌, length, take, if◌then◌else◌, nat_eq, codes, Option, None, Some, Result, Ok, Err}
 use Rattle.adjust.specs.Command.{command}
 use Rattle.adjust.specs.Texts.{check_text_of, fault_text_of, help_text_of, listen_text}
 use Rattle.adjust.specs.declared.types.Adjustments.{Adjustments}
@@ -16,13 +16,12 @@ pub record ToldStop {L P : Type 0} (old new : NetState L P) : Type 0 where
   pub polled : Rose old.polls new.polls
   pub stopped : IsTrue new.stopped
 
--- whether the last poll told to stop: it didn't, or nothing has changed since
-abbrev pub IsUnstopped : Bool → Bool → Type 0
-IsUnstopped old new = (new ≡ false) ⊎ (new ≡ old)
-
--- the last poll told to stop, and nobody was accepted behind it
-abbrev pub StopsLast : {L P : Type 0} → NetState L P → Type 0
-StopsLast net = IsSomeAnd net.last (λ poll. IsTrue poll.turn.stop × (poll.given ≡ net.given))
+-- so many connections as are to be served came since, and were retired
+pub record MeetsLimit {L P : Type 0} (limit : Option ℕ) (old new : NetState L P) : Type 0 where
+  pub count : ℕ
+  pub limited : limit ≡ Some count
+  pub came : length new.given ≡ length old.given + count
+  pub went : length new.closed ≡ length old.closed + count
 
 -- ---- what is asked for
 
@@ -64,6 +63,16 @@ addresses_of options = addresses_or (record { host = options.host; port = option
 abbrev pub listen_by : Reading → List Listen
 listen_by (Ok (command.Serve options app)) = addresses_of options
 listen_by _ = []
+
+-- after how many connections serving ends
+abbrev pub limit_by : Reading → Option ℕ
+limit_by (Ok (command.Serve options app)) = options.serve_limit
+limit_by _ = None
+
+-- after how many seconds an idle connection ends
+abbrev pub timeout_by : Reading → ℕ
+timeout_by (Ok (command.Serve options app)) = options.channel_timeout
+timeout_by _ = 0
 
 -- ---- what is printed
 

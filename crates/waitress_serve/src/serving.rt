@@ -1,67 +1,58 @@
-//! The loop of turns: one connection after the other.
-ghost use Rattle.std.specs.Prelude.{◌≡◌, ◌≤◌, ◌&&◌, IsTrue};
-ghost use Rattle.waitress_serve.specs.Connection.{HasBroken, UnlessStopped};
-ghost use Rattle.waitress_serve.specs.Headline.{EntryHolds};
-ghost use Rattle.waitress_serve.specs.Output.{responses, has_closed, server_with};
-ghost use Rattle.waitress_serve.specs.Serving.{GoingPolls, GoingStops, Served, going_is_stop};
-ghost use Rattle.waitress_serve.specs.Settings.{IsUsable};
+//! Serving, from a server without connections to its end.
+ghost use Rattle.std.specs.Prelude.{◌≡◌, ◌≤◌, IsTrue};
+ghost use Rattle.channel.specs.Views.{telling};
+ghost use Rattle.poll_loop.specs.Accounts.{ServeCause, ServeEnds};
+ghost use Rattle.poll_loop.specs.Connections.{HasBroken, service_by};
+ghost use Rattle.poll_loop.specs.Seat.{eyes};
+ghost use Rattle.poll_loop.specs.Settings.{AreUsable};
+ghost use Rattle.waitress_serve.specs.Conclusions.{ServedAll, conclusion_of};
+ghost use Rattle.waitress_serve.specs.Headline.{KeepsLimit};
 
-use crate::outcome::Going;
-use crate::service::Service;
-use crate::serving_one::serve_one;
-use outside::{Net, NetFault, Spills};
+use crate::conclusion::Conclusion;
+use outside::{Net, Spills};
+use poll_loop::{Going, ServeFault, Server, Settings};
 use std::alloc::Global;
 use std::sync::Wait;
 use wsgi::App;
 
-/// Makes turns until a poll tells to stop, the net fails or memory is refused.
+/// Serves until a poll tells to stop, the serve limit is met, the net fails or memory is refused.
 pub(crate) fn serve<W: Wait, N: Net, P: Spills, A: App<P::Spill>>(
     rt: &W,
     alloc: Global,
-    service: &Service<A>,
+    app: &A,
+    settings: &Settings,
     net: &mut N,
     spills: &mut P,
-) -> Going
-    requires usable { IsUsable service.now.settings }
+) -> Result<Going, ServeFault>
+    requires usable { AreUsable settings.now }
+    ensures served { IsTrue N.tells → ServedAll result
+        (service_by (telling N.Link.tells P.Spill.tells A.tells) A.script settings.now app.now)
+        (HasBroken A.Run.faults)
+        (eyes N.Link.tells N.Link.state N.Link.faults N.Link.key N.Link.plan)
+        (P.faults spills.old) (P.faults spills.new) (N.state net.old) (N.state net.new) }
+    ensures ends { IsTrue N.tells → ServeEnds result settings.now.serve_limit 0 (N.state net.old) (N.state net.new) }
+    ensures limited { IsTrue N.tells → KeepsLimit settings.now.serve_limit (N.state net.old) (N.state net.new) }
+    ensures cause { ServeCause result (N.poll_faults net.old) (N.poll_faults net.new) }
     ensures bind { N.bind_faults net.new ≡ N.bind_faults net.old }
-    ensures polls { GoingPolls result (N.poll_faults net.old) (N.poll_faults net.new) }
-    ensures stops { IsTrue N.tells → GoingStops result (N.state net.old) (N.state net.new) }
-    ensures unstopped { IsTrue N.tells → UnlessStopped (going_is_stop result)
-        (N.state net.old).stopped (N.state net.new).stopped }
     ensures plan { N.plan net.new ≡ N.plan net.old }
     ensures spills { P.faults spills.old ≤ P.faults spills.new }
-    ensures served { IsTrue N.tells → Served
-        (EntryHolds (N.Link.tells && (P.Spill.tells && A.tells)) N.Link.state N.Link.faults (N.state net.new)
-        (responses (server_with service.now.settings (A.script service.now.app)))
-        (has_closed (server_with service.now.settings (A.script service.now.app)))
-        ⊥ (HasBroken A.Run.faults))
-        (EntryHolds (N.Link.tells && (P.Spill.tells && A.tells)) N.Link.state N.Link.faults (N.state net.new)
-        (responses (server_with service.now.settings (A.script service.now.app)))
-        (has_closed (server_with service.now.settings (A.script service.now.app)))
-        (Unit {0}) (HasBroken A.Run.faults))
-        N.Link.plan (P.faults spills.old) (P.faults spills.new) (N.state net.old) (N.state net.new) }
 {
-    let mut wants = Vec::new(alloc);
-    for _ in rt.forever() {
-        wants.clear();
-        let turn = match net.poll(&mut wants, true) {
-            Ok(turn) => turn,
-            Err(_) => return Going::NetFailed,
-        };
-        if turn.stop {
-            return Going::Stopped;
-        }
-        match net.accept(alloc, turn.now) {
-            Ok(Some((link, peer))) => {
-                match serve_one(rt, alloc, service, net, &mut wants, spills, link, peer) {
-                    Some(going) => return going,
-                    None => {}
-                }
-            }
-            Ok(None) => {}
-            Err(NetFault::Failed) => return Going::NetFailed,
-            Err(NetFault::NoMemory) => return Going::NoMemory,
-        }
+    let Ok(mut server) = Server::new(alloc, app, settings) else {
+        return Err(ServeFault::NoMemory);
+    };
+    let ended = server.serve(rt, net, spills);
+    // What a run holds is settled once an application reads files.
+    drop(server.failed());
+    ended
+}
+
+/// How a command ended that served.
+pub(crate) fn conclude(ended: Result<Going, ServeFault>) -> Conclusion
+    ensures { result ≡ conclusion_of ended }
+{
+    match ended {
+        Ok(_) => Conclusion::Done,
+        Err(ServeFault::Net) => Conclusion::PollFailed,
+        Err(ServeFault::NoMemory) => Conclusion::NoMemory,
     }
-    unreachable!()
 }

@@ -1,23 +1,24 @@
 //! From a command to its end.
-ghost use Rattle.std.specs.Prelude.{◌≡◌, ◌<◌, ◌≤◌, ◌⊎◌, ◌&&◌, IsTrue, false, ◌++◌, Some, Ok as ok};
+ghost use Rattle.std.specs.Prelude.{◌≡◌, ◌<◌, ◌≤◌, ◌⊎◌, IsTrue, false, ◌++◌, Some, Ok as ok};
 ghost use Rattle.adjust.specs.Command.{command};
 ghost use Rattle.adjust.specs.CommandLine.{words_of};
 ghost use Rattle.adjust.specs.Ranges.{IsInRange, KeepsRanges};
-ghost use Rattle.waitress_serve.specs.Conclusions.{BindCount, Concludes, DoneServesAll, DoneStops, FailsUnstopped, IsDownBy, IsOfPrinting, IsOfServing, NetLeaves, OutCount, OutLeaves, PollCount, Ran};
-ghost use Rattle.waitress_serve.specs.Connection.{HasBroken};
-ghost use Rattle.waitress_serve.specs.Headline.{Added, EntryHolds, RetiresGiven, SettlesSpills, ShutLast};
-ghost use Rattle.waitress_serve.specs.Output.{closes_by, has_closed, output_by, responses, server_with};
-ghost use Rattle.waitress_serve.specs.Serving.{Served};
-ghost use Rattle.waitress_serve.specs.Settings.{settings_for};
-ghost use Rattle.waitress_serve.specs.Status.{addresses_of, listen_by, printed, prints, serves, serving_lines};
+ghost use Rattle.channel.specs.Views.{telling};
+ghost use Rattle.poll_loop.specs.Connections.{HasBroken};
+ghost use Rattle.poll_loop.specs.Entries.{EntryHolds};
+ghost use Rattle.poll_loop.specs.Seat.{eyes};
+ghost use Rattle.waitress_serve.specs.Completeness.{IsAnswered, IsBrief, IsStill};
+ghost use Rattle.waitress_serve.specs.Conclusions.{BindCount, Concludes, DoneAdds, DoneStops, FailsUnstopped, IsDownBy, IsOfPrinting, IsOfServing, NetLeaves, OutCount, OutLeaves, PollCount, Ran};
+ghost use Rattle.waitress_serve.specs.Headline.{Added, KeepsLimit, RetiresGiven, SettlesSpills, ShutLast, grounds};
+ghost use Rattle.waitress_serve.specs.Owed.{owed_by, service_for, service_with};
+ghost use Rattle.waitress_serve.specs.Status.{addresses_of, limit_by, listen_by, printed, prints, serves, serving_lines, timeout_by};
 
 use crate::conclusion::Conclusion;
-use crate::echo::Echo;
-use crate::outcome::Going;
 use crate::printing::{check, lines_of};
-use crate::service::{Service, prepare};
-use crate::serving::serve;
+use crate::service::prepare;
+use crate::serving::{conclude, serve};
 use adjust::{Adjustments, AppName, Command, UsageFault, read};
+use apps::Echo;
 use outside::{Net, Sink, Spills};
 use std::alloc::Global;
 use std::sync::Wait;
@@ -37,23 +38,17 @@ fn start<W: Wait, N: Net, P: Spills, C: Sink, A: App<P::Spill> + Drop>(
     ensures why { IsOfServing result }
     ensures binds { BindCount result (N.bind_faults net.old) (N.bind_faults net.new) }
     ensures polls { PollCount result (N.poll_faults net.old) (N.poll_faults net.new) }
-    ensures net { IsTrue N.tells → NetLeaves result (N.state net.old) (N.state net.new) }
-    ensures stops { IsTrue N.tells → DoneStops result (N.state net.old) (N.state net.new) }
-    ensures unstopped { IsTrue N.tells →
-        FailsUnstopped result (N.state net.old).stopped (N.state net.new).stopped }
+    ensures ran { IsTrue N.tells → Ran
+        (service_with (telling N.Link.tells P.Spill.tells A.tells) options (A.script app))
+        (HasBroken A.Run.faults)
+        (eyes N.Link.tells N.Link.state N.Link.faults N.Link.key N.Link.plan)
+        (addresses_of options) result (P.faults spills.old) (P.faults spills.new)
+        (N.state net.old) (N.state net.new) }
+    ensures stops { IsTrue N.tells →
+        DoneStops options.serve_limit result (N.state net.old) (N.state net.new) }
+    ensures limited { IsTrue N.tells → KeepsLimit options.serve_limit (N.state net.old) (N.state net.new) }
     ensures plan { N.plan net.new ≡ N.plan net.old }
-    ensures bound { IsTrue N.tells → (N.state net.old).polls < (N.state net.new).polls →
-        (N.state net.new).bound ≡ Some (addresses_of options) }
     ensures spills { P.faults spills.old ≤ P.faults spills.new }
-    ensures served { IsTrue N.tells → Served
-        (EntryHolds (N.Link.tells && (P.Spill.tells && A.tells)) N.Link.state N.Link.faults (N.state net.new)
-        (responses (server_with (settings_for options) (A.script app)))
-        (has_closed (server_with (settings_for options) (A.script app))) ⊥ (HasBroken A.Run.faults))
-        (EntryHolds (N.Link.tells && (P.Spill.tells && A.tells)) N.Link.state N.Link.faults (N.state net.new)
-        (responses (server_with (settings_for options) (A.script app)))
-        (has_closed (server_with (settings_for options) (A.script app))) (Unit {0}) (HasBroken A.Run.faults))
-        N.Link.plan (P.faults spills.old) (P.faults spills.new)
-        (record (N.state net.old) { bound = (N.state net.new).bound }) (N.state net.new) }
     ensures outs { OutCount result (C.faults out.old) (C.faults out.new) }
     ensures text { IsTrue C.tells → OutLeaves (serving_lines (addresses_of options)) result
         (C.written out.old) (C.written out.new) }
@@ -73,11 +68,7 @@ fn start<W: Wait, N: Net, P: Spills, C: Sink, A: App<P::Spill> + Drop>(
     if out.write(lines.as_slice()).is_err() {
         return Conclusion::Unprinted;
     }
-    match serve(rt, alloc, &Service { settings, app }, net, spills) {
-        Going::Stopped => Conclusion::Done,
-        Going::NetFailed => Conclusion::PollFailed,
-        Going::NoMemory => Conclusion::NoMemory,
-    }
+    conclude(serve(rt, alloc, &app, &settings, net, spills))
 }
 
 // Prints what a command prints that does nothing else.
@@ -110,13 +101,15 @@ fn carry_out<W: Wait, N: Net, P: Spills, C: Sink>(
     ensures polls { PollCount result (N.poll_faults net.old) (N.poll_faults net.new) }
     ensures idle { serves (ok command) ≡ false →
         (N.bind_faults net.new ≡ N.bind_faults net.old) × (N.poll_faults net.new ≡ N.poll_faults net.old) }
+    ensures idle_net { IsTrue N.tells → serves (ok command) ≡ false → N.state net.new ≡ N.state net.old }
     ensures ran { IsTrue N.tells → Ran
-        (λ down. EntryHolds (N.Link.tells && P.Spill.tells) N.Link.state N.Link.faults (N.state net.new)
-        (output_by (ok command)) (closes_by (ok command)) down ⊥)
-        N.Link.plan (ok command) result (P.faults spills.old) (P.faults spills.new)
+        (service_for (telling N.Link.tells P.Spill.tells P.Spill.tells) (ok command)) ⊥
+        (eyes N.Link.tells N.Link.state N.Link.faults N.Link.key N.Link.plan)
+        (listen_by (ok command)) result (P.faults spills.old) (P.faults spills.new)
         (N.state net.old) (N.state net.new) }
-    ensures unstopped { IsTrue N.tells →
-        FailsUnstopped result (N.state net.old).stopped (N.state net.new).stopped }
+    ensures stops { IsTrue N.tells → IsTrue (serves (ok command)) →
+        DoneStops (limit_by (ok command)) result (N.state net.old) (N.state net.new) }
+    ensures limited { IsTrue N.tells → KeepsLimit (limit_by (ok command)) (N.state net.old) (N.state net.new) }
     ensures plan { N.plan net.new ≡ N.plan net.old }
     ensures spills { P.faults spills.old ≤ P.faults spills.new }
     ensures outs { OutCount result (C.faults out.old) (C.faults out.new) }
@@ -151,7 +144,9 @@ pub(crate) fn run_words<W: Wait, N: Net, P: Spills, C: Sink>(
     ensures polls { PollCount result (N.poll_faults net.old) (N.poll_faults net.new) }
     ensures net { IsTrue N.tells → NetLeaves result (N.state net.old) (N.state net.new) }
     ensures stops { IsTrue N.tells → IsTrue (serves (command (words_of words.now))) →
-        DoneStops result (N.state net.old) (N.state net.new) }
+        DoneStops (limit_by (command (words_of words.now))) result (N.state net.old) (N.state net.new) }
+    ensures limited { IsTrue N.tells →
+        KeepsLimit (limit_by (command (words_of words.now))) (N.state net.old) (N.state net.new) }
 
     // Where nobody is to be served, nothing is done to the net.
     ensures idle { serves (command (words_of words.now)) ≡ false →
@@ -161,25 +156,27 @@ pub(crate) fn run_words<W: Wait, N: Net, P: Spills, C: Sink>(
 
     // What was retired, what was given and what stays of the net.
     ensures headline { IsTrue N.tells → Added
-        (EntryHolds (N.Link.tells && P.Spill.tells) N.Link.state N.Link.faults (N.state net.new)
-        (output_by (command (words_of words.now))) (closes_by (command (words_of words.now)))
-        (IsDownBy result (N.state net.old) (N.state net.new)) ⊥)
+        (EntryHolds (service_for (telling N.Link.tells P.Spill.tells P.Spill.tells) (command (words_of words.now)))
+        (grounds (IsDownBy result (N.state net.old) (N.state net.new)) ⊥)
+        N.Link.state N.Link.faults (N.state net.new))
         (N.state net.old).closed (N.state net.new).closed }
     ensures shut_last { IsTrue N.tells → ((N.state net.new).closed ≡ (N.state net.old).closed)
         ⊎ ShutLast (N.state net.old) (N.state net.new) }
     ensures given { IsTrue N.tells → RetiresGiven N.Link.plan (N.state net.old) (N.state net.new) }
     ensures live { IsTrue N.tells → (N.state net.new).live ≡ (N.state net.old).live }
     ensures quiet { IsTrue N.tells → (N.state net.new).quiet ≡ (N.state net.old).quiet }
-    ensures unstopped { IsTrue N.tells →
-        FailsUnstopped result (N.state net.old).stopped (N.state net.new).stopped }
+    ensures unstopped { IsTrue N.tells → FailsUnstopped result (N.state net.old) (N.state net.new) }
     ensures plan { N.plan net.new ≡ N.plan net.old }
     ensures bound { IsTrue N.tells → (N.state net.old).polls < (N.state net.new).polls →
         (N.state net.new).bound ≡ Some (listen_by (command (words_of words.now))) }
     ensures spills { P.faults spills.old ≤ P.faults spills.new }
     ensures settled { IsTrue N.tells → SettlesSpills (P.faults spills.old) (P.faults spills.new)
         (N.state net.old).closed (N.state net.new).closed }
-    ensures complete { IsTrue N.tells → IsTrue (N.state net.old).quiet →
-        DoneServesAll result (N.state net.old) (N.state net.new) }
+    ensures complete { IsTrue N.tells → IsTrue N.Link.tells → IsTrue P.Spill.tells → IsTrue (N.state net.old).quiet →
+        IsStill (P.faults spills.old) (P.faults spills.new) →
+        IsBrief (timeout_by (command (words_of words.now))) (N.state net.new) →
+        DoneAdds (IsAnswered N.Link.state N.Link.faults (owed_by (command (words_of words.now)))) result
+        (N.state net.old).closed (N.state net.new).closed }
 
     // What is printed stands there before anybody is served.
     ensures outs { OutCount result (C.faults out.old) (C.faults out.new) }

@@ -1,11 +1,15 @@
 //! The top call.
-ghost use Rattle.std.specs.Prelude.{◌≡◌, ◌≢◌, ◌<◌, ◌≤◌, ◌⊎◌, ◌&&◌, ◌||◌, IsTrue, false, ◌++◌, Some};
+ghost use Rattle.std.specs.Prelude.{◌≡◌, ◌≢◌, ◌<◌, ◌≤◌, ◌⊎◌, ◌||◌, IsTrue, false, ◌++◌, Some};
 ghost use Rattle.adjust.specs.Command.{command};
 ghost use Rattle.adjust.specs.CommandLine.{words_of};
+ghost use Rattle.channel.specs.Views.{telling};
 ghost use Rattle.outside.specs.Causes.{Rose};
-ghost use Rattle.waitress_serve.specs.Headline.{Added, EntryHolds, RetiresGiven, ServesAll, SettlesSpills, ShutLast, WentDown};
-ghost use Rattle.waitress_serve.specs.Output.{is_told, output, output_closes};
-ghost use Rattle.waitress_serve.specs.Status.{IsUnstopped, StopsLast, ToldStop, WritesPart, WritesSome, is_faulty, is_unbuilt, listen_by, printed, prints, serves, status_text};
+ghost use Rattle.poll_loop.specs.Accounts.{Stops};
+ghost use Rattle.poll_loop.specs.Entries.{EntryHolds};
+ghost use Rattle.waitress_serve.specs.Completeness.{Completes, IsBrief, IsStill};
+ghost use Rattle.waitress_serve.specs.Headline.{Added, KeepsLimit, RetiresGiven, SettlesSpills, ShutLast, WentDown, grounds};
+ghost use Rattle.waitress_serve.specs.Owed.{is_told, owed, service};
+ghost use Rattle.waitress_serve.specs.Status.{MeetsLimit, WritesPart, WritesSome, is_faulty, is_unbuilt, limit_by, listen_by, printed, prints, serves, status_text, timeout_by};
 
 use crate::conclusion::Conclusion;
 use crate::starting::run_words;
@@ -27,23 +31,22 @@ pub fn run<W: Threads + Wait + Sync, N: Net, T: Tree, P: Spills, C: Sink, G: Tri
     err: &mut C,
     trigger: &G,
 ) -> u8
-    // Each connection was sent a prefix of the output of what arrived, and its end has its cause. No
-    // run of the one application breaks.
+    // Each connection was sent a prefix of what it is owed for what arrived, and its end has its cause.
+    // No run of the one application breaks.
     ensures headline { IsTrue N.tells → Added
-        (EntryHolds (N.Link.tells && is_told (words_of words.now) P.Spill.tells T.tells)
-        N.Link.state N.Link.faults (N.state net.new)
-        (output (words_of words.now) (T.files tree.old))
-        (output_closes (words_of words.now) (T.files tree.old))
-        (WentDown result (N.state net.old) (N.state net.new) (C.faults err.old) (C.faults err.new)) ⊥)
+        (EntryHolds (service (telling N.Link.tells P.Spill.tells (is_told (words_of words.now) P.Spill.tells T.tells))
+        (words_of words.now) (T.files tree.old))
+        (grounds (WentDown result (N.state net.old) (N.state net.new) (C.faults err.old) (C.faults err.new)) ⊥)
+        N.Link.state N.Link.faults (N.state net.new))
         (N.state net.old).closed (N.state net.new).closed }
 
-    // Only what was open when serving ended was shut down, and a stop is the last turn.
+    // Who was shut down comes last; no more were than were open at the last poll, or came since.
     ensures shut_last { IsTrue N.tells → ((N.state net.new).closed ≡ (N.state net.old).closed)
         ⊎ ShutLast (N.state net.old) (N.state net.new) }
-    ensures stop_last { IsTrue N.tells → IsTrue (serves (command (words_of words.now))) → result ≡ 0 →
-        StopsLast (N.state net.new) }
 
-    // Each connection that came was retired, and none that was open before.
+    // No more came than are to be served. Each that came was retired, and none that was open before.
+    ensures limited { IsTrue N.tells →
+        KeepsLimit (limit_by (command (words_of words.now))) (N.state net.old) (N.state net.new) }
     ensures given { IsTrue N.tells → RetiresGiven N.Link.plan (N.state net.old) (N.state net.new) }
     ensures live { IsTrue N.tells → (N.state net.new).live ≡ (N.state net.old).live }
     ensures quiet { IsTrue N.tells → (N.state net.new).quiet ≡ (N.state net.old).quiet }
@@ -57,17 +60,27 @@ pub fn run<W: Threads + Wait + Sync, N: Net, T: Tree, P: Spills, C: Sink, G: Tri
     ensures settled { IsTrue N.tells → SettlesSpills (P.faults spills.old) (P.faults spills.new)
         (N.state net.old).closed (N.state net.new).closed }
 
-    // Over a quiet net nobody is shut down, unless the net or memory ends serving.
-    ensures complete { IsTrue N.tells → IsTrue (N.state net.old).quiet → result ≡ 0 →
-        ServesAll (N.state net.old).closed (N.state net.new).closed }
+    // Over a quiet net, where all tells, no count of faults rises and no longer goes by than the timeout, the
+    // status is 0 or 5; with 0 each connection whose link didn't fail was answered whole, or refused memory.
+    ensures complete { IsTrue N.tells → IsTrue N.Link.tells → IsTrue P.Spill.tells →
+        IsTrue (serves (command (words_of words.now))) → IsTrue (N.state net.old).quiet →
+        IsBrief (timeout_by (command (words_of words.now))) (N.state net.new) →
+        IsStill (N.bind_faults net.old) (N.bind_faults net.new) →
+        IsStill (N.poll_faults net.old) (N.poll_faults net.new) →
+        IsStill (P.faults spills.old) (P.faults spills.new) →
+        IsStill (C.faults out.old) (C.faults out.new) → IsStill (C.faults err.old) (C.faults err.new) →
+        Completes N.Link.state N.Link.faults (owed (words_of words.now) (T.files tree.old)) result
+        (N.state net.old).closed (N.state net.new).closed }
 
-    // 0: a poll told to stop, or all was printed.
+    // 0: the last poll told to stop, or so many connections came and were retired as the serve limit says; or
+    // all was printed.
     ensures zero { result ≡ 0 →
         IsTrue (serves (command (words_of words.now)) || prints (command (words_of words.now))) }
     ensures printing { IsTrue (prints (command (words_of words.now))) →
         (result ≡ 0) ⊎ (result ≡ 5) ⊎ (result ≡ 6) }
     ensures stopped { IsTrue N.tells → IsTrue (serves (command (words_of words.now))) → result ≡ 0 →
-        ToldStop (N.state net.old) (N.state net.new) }
+        Stops (N.state net.old) (N.state net.new)
+        ⊎ MeetsLimit (limit_by (command (words_of words.now))) (N.state net.old) (N.state net.new) }
 
     // 1: the words are faulty. 2: what they ask for isn't built.
     ensures one { result ≡ 1 → IsTrue (is_faulty (command (words_of words.now))) }
@@ -77,12 +90,12 @@ pub fn run<W: Threads + Wait + Sync, N: Net, T: Tree, P: Spills, C: Sink, G: Tri
     ensures unbuilt { IsTrue (is_unbuilt (command (words_of words.now))) →
         (result ≡ 2) ⊎ (result ≡ 5) ⊎ ((result ≡ 6) × Rose (C.faults err.old) (C.faults err.new)) }
 
-    // 3, 4 and 6: a bind, a poll or accept, or a sink failed. 5: want of memory. Nothing is polled
-    // behind a poll or accept that failed, so none tells to stop.
+    // 3, 4 and 6: a bind, a poll or accept, or a sink failed. 5: want of memory. Where a poll or accept failed,
+    // none told to stop.
     ensures three { result ≡ 3 → Rose (N.bind_faults net.old) (N.bind_faults net.new) }
     ensures four { result ≡ 4 → Rose (N.poll_faults net.old) (N.poll_faults net.new) }
     ensures four_last { IsTrue N.tells → result ≡ 4 →
-        IsUnstopped (N.state net.old).stopped (N.state net.new).stopped }
+        IsTrue (N.state net.new).stopped → IsTrue (N.state net.old).stopped }
     ensures six { result ≡ 6 →
         Rose (C.faults out.old) (C.faults out.new) ⊎ Rose (C.faults err.old) (C.faults err.new) }
     ensures no_other { (result ≡ 0) ⊎ (result ≡ 1) ⊎ (result ≡ 2) ⊎ (result ≡ 3) ⊎ (result ≡ 4)

@@ -14,7 +14,7 @@ use std::test::Fail;
 use std::thread::Threads;
 use waitress_serve::run;
 
-const SUNDAY: u64 = 784_111_777;
+pub(crate) const SUNDAY: u64 = 784_111_777;
 
 // Who comes, what fails, and what the run leaves.
 #[derive(Clone, Copy)]
@@ -84,7 +84,7 @@ pub(crate) const ALONE: Case<'static> = Case {
 };
 
 // The numbers of the calls that fail.
-fn failing(alloc: Global, call: Option<u64>) -> Result<Vec<u64>, AllocError> {
+pub(crate) fn failing(alloc: Global, call: Option<u64>) -> Result<Vec<u64>, AllocError> {
     let mut fails = Vec::new(alloc);
     if let Some(number) = call {
         fails.push(number)?;
@@ -149,7 +149,7 @@ fn net(alloc: Global, case: &Case<'_>) -> Result<MemNet, Fail> {
 }
 
 // What is checked of a run is what it leaves, and not what its clauses say.
-fn status_of<R: Threads + Wait + AllocGlobal + Sync>(
+pub(crate) fn status_of<R: Threads + Wait + AllocGlobal + Sync>(
     rt: &R,
     words: &[String],
     net: &mut MemNet,
@@ -172,16 +172,22 @@ fn status_of<R: Threads + Wait + AllocGlobal + Sync>(
     )
 }
 
+// The words that stand between the |.
+pub(crate) fn split(alloc: Global, text: &str) -> Result<Vec<String>, AllocError> {
+    let mut words = Vec::new(alloc);
+    for word in text.split('|') {
+        words.push(String::from_str(alloc, word)?)?;
+    }
+    Ok(words)
+}
+
 // Makes the run, and looks at what it left.
 pub(crate) fn check<R: Threads + Wait + Abort + AllocGlobal + Sync>(
     rt: &R,
     case: &Case<'_>,
 ) -> Result<(), Fail> {
     let alloc = rt.alloc();
-    let mut words = Vec::new(alloc);
-    for word in case.words.split('|') {
-        words.push(String::from_str(alloc, word)?)?;
-    }
+    let words = split(alloc, case.words)?;
     let mut net = net(alloc, case)?;
     let mut out = MemSink::new(alloc, failing(alloc, first(case.out_fails))?);
     let mut err = MemSink::new(alloc, failing(alloc, first(case.err_fails))?);

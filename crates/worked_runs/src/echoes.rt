@@ -1,10 +1,10 @@
 //! With ample memory the echo application answers all its steps.
+use apps::Echo;
 use itoa::Buffer;
 use outside::{MemSpills, Spills};
 use spill_buffer::OverflowBuffer;
 use std::alloc::{AllocError, Global};
 use std::test::Fail;
-use waitress_serve::Echo;
 use wsgi::{App, AppRun, Environ, Step};
 
 // The fields of a start, or how many bytes a piece has.

@@ -11,9 +11,13 @@ mod case;
 #[cfg(test)]
 mod connections;
 #[cfg(test)]
+mod crowd;
+#[cfg(test)]
 mod echoes;
 #[cfg(test)]
 mod kinds;
+#[cfg(test)]
+mod many;
 #[cfg(test)]
 mod texts;
 #[cfg(test)]

@@ -8,6 +8,14 @@ pub(crate) const ANSWER: &[u8] = b"HTTP/1.0 200 OK\r\n\
     Date: Sun, 06 Nov 1994 08:49:37 GMT\r\n\
     Server: waitress\r\n\r\n";
 
+// The same, sixteen seconds later.
+pub(crate) const LATE: &[u8] = b"HTTP/1.0 200 OK\r\n\
+    Connection: close\r\n\
+    Content-Length: 0\r\n\
+    Content-Type: application/octet-stream\r\n\
+    Date: Sun, 06 Nov 1994 08:49:53 GMT\r\n\
+    Server: waitress\r\n\r\n";
+
 pub(crate) const UNDATED: &[u8] = b"HTTP/1.0 200 OK\r\n\
     Connection: close\r\n\
     Content-Length: 0\r\n\
@@ -51,6 +59,13 @@ pub(crate) const CONTINUED: &[u8] = b"HTTP/1.1 100 Continue\r\n\r\n\
     hello";
 
 pub(crate) const CLOSED: &[u8] = b"HTTP/1.1 200 OK\r\nConnection: close\r\n\
+    Content-Length: 5\r\n\
+    Content-Type: application/octet-stream\r\n\
+    Date: Sun, 06 Nov 1994 08:49:37 GMT\r\n\
+    Server: waitress\r\n\r\n\
+    hello";
+
+pub(crate) const FIVE: &[u8] = b"HTTP/1.1 200 OK\r\n\
     Content-Length: 5\r\n\
     Content-Type: application/octet-stream\r\n\
     Date: Sun, 06 Nov 1994 08:49:37 GMT\r\n\

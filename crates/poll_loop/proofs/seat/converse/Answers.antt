@@ -41,6 +41,6 @@ returns-in-None-speak-clause-attends g c =
     let heard : c.hear.new.lane.fixed.window ≡ w = ap (λ f. f.window) c.hear.ensures.goes.same.fixed in
     let spoken : c.speak.new.lane.fixed.window ≡ w = ap (λ f. f.window) (c.speak.ensures.goes.same.fixed ∙ s.fixed ∙ c.hear.ensures.goes.same.fixed) in
     marked_by now w c.speak.new.lane.fixed.window c.mark_of.result v3 _ spoken
-    (attends_by g.L.Link.tells now w c.args.ready v0 v1 v2 v3 c.requires.asks c.hear.ensures.goes.follows c.in-None.ensures.hears
+    (attends_by g.L.Link.tells now w c.args.ready v0 v1 v2 v3 c.requires.asks c.requires.called c.hear.ensures.goes.follows c.in-None.ensures.hears
     steps.follows (ap e.faults s.link) (subst (λ x. Strides x v1.shown v2.shown) heard s.strides) c.speak.ensures.goes.follows c.in-None-speak.ensures.speaks)
     c.mark_of.ensures.holds

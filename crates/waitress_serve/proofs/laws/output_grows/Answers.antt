@@ -4,19 +4,19 @@ use Rattle.adjust.specs.Command.{command}
 use Rattle.adjust.specs.Ranges.{KeepsRanges}
 use Rattle.adjust.specs.declared.types.AppName.TheVariants as app
 use Rattle.adjust.specs.declared.types.Command.TheVariants as command
+use Rattle.apps.specs.Echo.{echo_script}
+use Rattle.channel.specs.Output.{Input, IsPrefix}
 use Rattle.outside.specs.declared.types.Peer.{Peer}
-use Rattle.waitress_serve.specs.Echo.{echo_script}
-use Rattle.waitress_serve.specs.Headline.{IsPrefix}
-use Rattle.waitress_serve.specs.Output.{Input, output_by, server_with}
+use Rattle.waitress_serve.specs.Owed.{owed_by}
 use Rattle.waitress_serve.specs.Settings.{settings_for}
 use Rattle.waitress_serve.specs.Status.{Reading}
-use Rattle.waitress_serve.proofs.Answering.{responses_front}
+use Rattle.waitress_serve.proofs.Growing.{responses_front}
 use Rattle.waitress_serve.proofs.laws.output_grows.Goals as goal
 
-output_front : (asked : Reading) → IfOk asked KeepsRanges → (peer : Peer) (x y : Input) → IsPrefix (output_by asked peer x) (output_by asked peer (x ++ y))
+output_front : (asked : Reading) → IfOk asked KeepsRanges → (peer : Peer) (x y : Input) → IsPrefix (owed_by asked peer x).output (owed_by asked peer (x ++ y)).output
 output_front (Ok (command.Serve options app.Echo)) ranges peer x y =
     let some = ranges.max_request_header_size.from in
-    responses_front (server_with (settings_for options) echo_script) peer x y (omega (arith, some))
+    responses_front (settings_for options).limits (settings_for options).site echo_script peer x y (omega (arith, some))
 output_front (Ok (command.Serve options (app.Table file))) ranges peer x y = record { rest = []; whole = refl }
 output_front (Ok (command.Serve options (app.Dir root))) ranges peer x y = record { rest = []; whole = refl }
 output_front (Ok (command.Check options)) ranges peer x y = record { rest = []; whole = refl }

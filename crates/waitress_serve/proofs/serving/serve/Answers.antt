@@ -1,80 +1,68 @@
-use Rattle.std.proofs.Common.{rules, ◌≡◌, ◌∙◌, inl, inr, ap, Ok, Some, None, refl, arith}
-use Rattle.outside.specs.Link.{opened}
-use Rattle.outside.specs.Net.{Accepts}
-use Rattle.waitress_serve.proofs.Polling.{turn_only, failed_only, nobody_only, refused_only}
-use Rattle.waitress_serve.proofs.Turns.{served_now, serves_none}
-use Rattle.waitress_serve.proofs.Timely.{serves_later, serves_next, served_down, timely_came}
-use Rattle.waitress_serve.proofs.Unstopped.{unless_on, unstopped_on}
+use Rattle.std.proofs.Common.{◌≡◌, ℕ, inl, [], None, length, refl, sym, subst, arith, append-nil}
+use Rattle.std.specs.Prelude.{Result, Err}
+use Rattle.std.proofs.lemmas.List.Sorted.{IsPermutation-refl}
+use Rattle.channel.specs.Output.{Script}
+use Rattle.channel.specs.Views.{Telling, telling}
+use Rattle.outside.specs.Net.{NetState}
+use Rattle.poll_loop.specs.Accounts.{Served}
+use Rattle.poll_loop.specs.Connections.{HasBroken, going_on, service_by, shutting_down}
+use Rattle.poll_loop.specs.Entries.{EntryHolds, Service, spill_faults}
+use Rattle.poll_loop.specs.NoIdle.{Serving, who}
+use Rattle.poll_loop.specs.Seat.{Eyes, eyes}
+use Rattle.poll_loop.specs.Server.{booked, serving}
+use Rattle.poll_loop.specs.declared.settings.Going.{Going}
+use Rattle.poll_loop.specs.declared.settings.ServeFault.{ServeFault}
+use Rattle.poll_loop.specs.declared.settings.ServeFault.TheVariants as fault
+use Rattle.poll_loop.specs.declared.settings.Settings.{Settings}
+use Rattle.waitress_serve.specs.Conclusions.{ServedAll}
 use Rattle.waitress_serve.proofs.serving.serve.Goals as goal
 
-pub loop-init : goal.loop-init
-loop-init g c = record {
-  can = tt;
-  ends = tt;
-  bind = refl;
-  polls = refl;
-  plan = refl;
-  spills = omega arith;
-  unstopped = λ told. inr refl;
-  serves = λ told. serves_none _ g.N.Link.Link.plan (g.P.Spills.faults c.args.spills.now) (g.N.Net.state c.args.net.now);
+-- no server could be made
+unserved : {L P : Type 0} (service : Service) (broken : Type 0) (e : Eyes L P) (count : ℕ) (net : NetState L P) → ServedAll (Err fault.NoMemory) service broken e count count net net
+unserved {L} service broken e count net = record {
+  fallen = 0;
+  who = [];
+  served = record {
+    before = [];
+    after = [];
+    closed = sym (append-nil net.closed);
+    each = tt;
+    last = tt;
+    shut = tt;
+    nobody = tt;
+    since = [];
+    given = sym (append-nil net.given);
+    same = IsPermutation-refl _;
+    live = omega arith;
+    spilled = let none : spill_faults {L = L} [] ≡ 0 = refl in omega (arith, none);
+    fell = refl;
+    bound = refl;
+    quiet = refl;
+    polls = omega arith;
+    time = record { first = λ moment same. same; later = omega arith };
+    knows = λ _. inl refl;
+  };
 }
 
-pub returns-in-Err-clause-served : goal.returns-in-Err-clause-served
-returns-in-Err-clause-served g c = λ told.
-    served_now _ _ g.N.Link.Link.plan (g.P.Spills.faults c.args.spills.now) (g.P.Spills.faults c.loop.spills) _ _ (serves_later _ _ _ _ _ _ g.N.Link.Link.plan (g.P.Spills.faults c.args.spills.now) (g.P.Spills.faults c.loop.spills) (g.N.Net.state c.args.net.now) (g.N.Net.state c.loop.net) (g.N.Net.state c.poll.new.self) (c.loop.invariant.serves told) (failed_only _ _ (c.in-Err.ensures.told told)))
-
-pub returns-then-turn-clause-served : goal.returns-then-turn-clause-served
-returns-then-turn-clause-served g c = λ told.
-    served_now _ _ g.N.Link.Link.plan (g.P.Spills.faults c.args.spills.now) (g.P.Spills.faults c.loop.spills) _ _ (serves_later _ _ _ _ _ _ g.N.Link.Link.plan (g.P.Spills.faults c.args.spills.now) (g.P.Spills.faults c.loop.spills) (g.N.Net.state c.args.net.now) (g.N.Net.state c.loop.net) (g.N.Net.state c.poll.new.self) (c.loop.invariant.serves told) (turn_only _ _ _ _ _ (c.in-Ok.ensures.told told)))
-
-pub returns-in-Some-serve_one-clause-served : goal.returns-in-Some-serve_one-clause-served
-returns-in-Some-serve_one-clause-served g c = λ told.
-    let accepted : Accepts g.N.Link.Link.plan (Ok (Some (c.in-Ok-Some.link, c.in-Ok-Some.peer))) (g.N.Net.state c.poll.new.self) (g.N.Net.state c.accept.new.self) = rw c.in-Ok-Some.field-0-is at c.in-Ok-Some.ensures.told told in
-    served_down _ _ _ _ _ _ g.N.Link.Link.plan (g.N.Net.state c.args.net.now) (g.N.Net.state c.loop.net) (g.N.Net.state c.poll.new.self) (g.N.Net.state c.accept.new.self) (g.N.Net.state c.serve_one.new.net) _ _ _ c.in-Ok-Some.peer _ (c.in-Ok.ensures.told told) accepted (g.P.Spills.faults c.args.spills.now) (g.P.Spills.faults c.loop.spills) (g.P.Spills.faults c.serve_one.new.spills) (c.loop.invariant.serves told) (c.in-Some-serve_one.ensures.retired told)
-
-pub loop-preserved-in-None-serve_one : goal.loop-preserved-in-None-serve_one
-loop-preserved-in-None-serve_one g c = record {
-  can = tt;
-  ends = tt;
-  bind = search rules;
-  polls = search rules;
-  plan = search rules;
-  spills = search rules;
-  unstopped = λ told.
-      let accepted : Accepts g.N.Link.Link.plan (Ok (Some (c.in-Ok-Some.link, c.in-Ok-Some.peer))) (g.N.Net.state c.poll.new.self) (g.N.Net.state c.accept.new.self) = rw c.in-Ok-Some.field-0-is at c.in-Ok-Some.ensures.told told in
-      unstopped_on (g.N.Net.state c.args.net.now).stopped (g.N.Net.state c.accept.new.self).stopped (g.N.Net.state c.serve_one.new.net).stopped
-      (inl (ap (λ s. s.stopped) accepted.state ∙ (ap (λ s. s.stopped) (c.in-Ok.ensures.told told).state ∙ c.if-turn.false))) (c.in-None-serve_one.ensures.unstopped told);
-  serves = λ told.
-      let accepted : Accepts g.N.Link.Link.plan (Ok (Some (c.in-Ok-Some.link, c.in-Ok-Some.peer))) (g.N.Net.state c.poll.new.self) (g.N.Net.state c.accept.new.self) = rw c.in-Ok-Some.field-0-is at c.in-Ok-Some.ensures.told told in
-      serves_next _ _ _ _ _ _ g.N.Link.Link.plan (g.N.Net.state c.args.net.now) (g.N.Net.state c.loop.net) (g.N.Net.state c.poll.new.self) (g.N.Net.state c.accept.new.self) (g.N.Net.state c.serve_one.new.net) _ _ _ c.in-Ok-Some.peer _ (c.in-Ok.ensures.told told) accepted (g.P.Spills.faults c.args.spills.now) (g.P.Spills.faults c.loop.spills) (g.P.Spills.faults c.serve_one.new.spills) (c.loop.invariant.serves told) (c.in-None-serve_one.ensures.retired told);
+-- a server without connections served
+served_all : {L P A R : Type 0} (result : Result Going ServeFault) (tells : Telling) (script : A → Script) (broken : Type 0) (e : Eyes L P) (before now : ℕ) (old new : NetState L P)
+    (fresh ended : Serving L A R) (app : A) (settings : Settings) →
+    fresh ≡ record { app = app; settings = settings; open' = []; accepted = 0; retired = 0; checked = None; fallen = [] } →
+    Served result (EntryHolds (service_by tells script fresh.settings fresh.app) (going_on broken) e.state e.faults)
+    (EntryHolds (service_by tells script fresh.settings fresh.app) (shutting_down broken) e.state e.faults) e.plan (booked e old before fresh) (booked e new now ended) →
+    ServedAll result (service_by tells script settings app) broken e before now old new
+served_all result tells script broken e before now old new fresh ended app settings begins s = record {
+  fallen = length ended.fallen;
+  who = who e ended;
+  served = subst (λ f. Served result (EntryHolds (service_by tells script f.settings f.app) (going_on broken) e.state e.faults)
+      (EntryHolds (service_by tells script f.settings f.app) (shutting_down broken) e.state e.faults) e.plan (booked e old before f) (booked e new now ended)) begins s;
 }
 
-pub returns-in-Err-Failed-clause-served : goal.returns-in-Err-Failed-clause-served
-returns-in-Err-Failed-clause-served g c = λ told.
-    served_now _ _ g.N.Link.Link.plan (g.P.Spills.faults c.args.spills.now) (g.P.Spills.faults c.loop.spills) _ _ (serves_later _ _ _ _ _ _ g.N.Link.Link.plan (g.P.Spills.faults c.args.spills.now) (g.P.Spills.faults c.loop.spills) (g.N.Net.state c.args.net.now) (g.N.Net.state c.poll.new.self) (g.N.Net.state c.accept.new.self) (serves_later _ _ _ _ _ _ g.N.Link.Link.plan (g.P.Spills.faults c.args.spills.now) (g.P.Spills.faults c.loop.spills) (g.N.Net.state c.args.net.now) (g.N.Net.state c.loop.net) (g.N.Net.state c.poll.new.self) (c.loop.invariant.serves told) (turn_only _ _ _ _ _ (c.in-Ok.ensures.told told))) (refused_only _ _ (c.in-Err-Failed.ensures.told told)))
+pub returns-clause-served : goal.returns-clause-served
+returns-clause-served g c = λ told.
+    served_all c.serve-ended.result (telling g.N.Link.Link.tells g.P.Spill.Spill.tells g.A.App.tells) g.A.App.script (HasBroken g.A.Run.AppRun.faults)
+    (eyes g.N.Link.Link.tells g.N.Link.Link.state g.N.Link.Link.faults g.N.Link.Link.key g.N.Link.Link.plan) _ _ (g.N.Net.state c.args.net.now) (g.N.Net.state c.serve-ended.new.net)
+    (serving c.in-Ok.server) (serving c.serve-ended.new.self) c.args.app.now c.args.settings.now c.in-Ok.ensures.begins (c.serve-ended.ensures.served told)
 
-pub returns-in-Err-NoMemory-clause-served : goal.returns-in-Err-NoMemory-clause-served
-returns-in-Err-NoMemory-clause-served g c = λ told.
-    served_now _ _ g.N.Link.Link.plan (g.P.Spills.faults c.args.spills.now) (g.P.Spills.faults c.loop.spills) _ _ (serves_later _ _ _ _ _ _ g.N.Link.Link.plan (g.P.Spills.faults c.args.spills.now) (g.P.Spills.faults c.loop.spills) (g.N.Net.state c.args.net.now) (g.N.Net.state c.poll.new.self) (g.N.Net.state c.accept.new.self) (serves_later _ _ _ _ _ _ g.N.Link.Link.plan (g.P.Spills.faults c.args.spills.now) (g.P.Spills.faults c.loop.spills) (g.N.Net.state c.args.net.now) (g.N.Net.state c.loop.net) (g.N.Net.state c.poll.new.self) (c.loop.invariant.serves told) (turn_only _ _ _ _ _ (c.in-Ok.ensures.told told))) (refused_only _ _ (c.in-Err-NoMemory.ensures.told told)))
-
-pub serve_one-requires-clause-timely : goal.serve_one-requires-clause-timely
-serve_one-requires-clause-timely g c = λ _ _ told link_told.
-    let accepted : Accepts g.N.Link.Link.plan (Ok (Some (c.in-Ok-Some.link, c.in-Ok-Some.peer))) (g.N.Net.state c.poll.new.self) (g.N.Net.state c.accept.new.self) = rw c.in-Ok-Some.field-0-is at c.in-Ok-Some.ensures.told told in
-    let fresh : g.N.Link.Link.state c.in-Ok-Some.link ≡ opened c.in-Ok.turn.now = rw c.in-Ok-Some.field-0-is at c.in-Ok-Some.ensures.opened link_told in
-    timely_came _ c.in-Ok-Some.peer (g.N.Net.state c.loop.net) (g.N.Net.state c.poll.new.self) (g.N.Net.state c.accept.new.self) _ _ _ (c.in-Ok.ensures.told told) accepted (g.N.Link.Link.state c.in-Ok-Some.link) fresh
-
-pub loop-preserved : goal.loop-preserved
-loop-preserved g c = record {
-  can = tt;
-  ends = tt;
-  bind = search rules;
-  polls = search rules;
-  plan = search rules;
-  spills = search rules;
-  unstopped = λ told.
-      let accepted : Accepts g.N.Link.Link.plan (Ok None) (g.N.Net.state c.poll.new.self) (g.N.Net.state c.accept.new.self) = rw c.in-Ok-None.field-0-is at c.in-Ok-None.ensures.told told in
-      inl (ap (λ s. s.stopped) accepted ∙ (ap (λ s. s.stopped) (c.in-Ok.ensures.told told).state ∙ c.if-turn.false));
-  serves = λ told.
-      let accepted : Accepts g.N.Link.Link.plan (Ok None) (g.N.Net.state c.poll.new.self) (g.N.Net.state c.accept.new.self) = rw c.in-Ok-None.field-0-is at c.in-Ok-None.ensures.told told in
-      serves_later _ _ _ _ _ _ g.N.Link.Link.plan (g.P.Spills.faults c.args.spills.now) (g.P.Spills.faults c.loop.spills) (g.N.Net.state c.args.net.now) (g.N.Net.state c.poll.new.self) (g.N.Net.state c.accept.new.self) (serves_later _ _ _ _ _ _ g.N.Link.Link.plan (g.P.Spills.faults c.args.spills.now) (g.P.Spills.faults c.loop.spills) (g.N.Net.state c.args.net.now) (g.N.Net.state c.loop.net) (g.N.Net.state c.poll.new.self) (c.loop.invariant.serves told) (turn_only _ _ _ _ _ (c.in-Ok.ensures.told told))) (nobody_only _ _ accepted);
-}
+pub returns-in_default-clause-served : goal.returns-in_default-clause-served
+returns-in_default-clause-served g c = λ told. unserved _ _ _ _ _

@@ -129,5 +129,6 @@ returns-then-below-clause-carries g c _ tells link_tells =
     let within = c.work.ensures.stands.within in
     carries Holds e (serving self) (serving c.work.new.self) c.args.turn (take c.args.asked self.wants.items) olds mids off.news lasts old mid new _ _ _ _ _ _
     link_tells refl refl c.requires.stands.rest c.requires.asks.asks s.takes off.labours off.kept (s.accounts tells) (s.same_polls tells) (λ come. c.in-None.ensures.answers come tells)
-    (accounts_as Holds e.plan mid new _ _ _ _ _ _ _ _ _ _ _ _ refl refl refl refl (who_is e mids) (who_is e lasts) (c.work.ensures.accounts tells)) (c.work.ensures.net tells)
+    c.accept_if.new.connections.accepted c.work.ensures.accepted (λ come. c.in-None.ensures.all come tells) (λ none. s.uncalled none tells)
+    (accounts_as Holds e.plan mid new _ _ _ _ _ _ _ _ _ _ _ _ refl refl refl refl (who_is e mids) (who_is e lasts) (c.work.ensures.accounts tells)) (c.work.ensures.net tells) off.checked
     (omega (arith, within, limit)) (ap (λ t. is_below t.now.serve_limit c.work.new.self.connections.retired) (sym c.work.ensures.same.settings) ∙ sym c.if-below.ensures.below)

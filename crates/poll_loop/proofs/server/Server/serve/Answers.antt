@@ -49,7 +49,7 @@ loop-preserved g c =
           (g.N.Net.state c.loop.net) (g.P.Spills.faults c.loop.spills) (serving c.loop.self))
           (booked (eyes g.N.Link.Link.tells g.N.Link.Link.state g.N.Link.Link.faults g.N.Link.Link.key g.N.Link.Link.plan)
           (g.N.Net.state c.turn.new.net) (g.P.Spills.faults c.turn.new.spills) (serving c.turn.new.self))
-          c.turn.new.self.connections.accepted held.settings held.app (held.goes tells) (made.goes_on on tells) (made.came_more on tells) (made.unstopped on tells) (made.knows on tells);
+          c.turn.new.self.connections.accepted held.settings held.app (held.goes tells) (made.goes_on on tells) (made.came_more tells) (made.unstopped on tells) (made.knows on tells);
       hosts = made.hosts on;
       stands = made.stands;
       settings = made.settings ∙ held.settings;
