@@ -1,5 +1,5 @@
 //! A net of one busy connection among many idle ones.
-ghost use Rattle.std.specs.Prelude.{◌≡◌, ◌≤◌, ◌<◌, length, slice_range};
+ghost use Rattle.std.specs.Prelude.{◌<◌};
 
 use outside::{Bytes, End, Failed, Link, Listen, Net, NetFault, Peer, Recv, Sent, Turn, Want};
 use std::alloc::Global;

@@ -4,7 +4,7 @@ use Rattle.std.proofs.lemmas.List.{length-map}
 use Rattle.std.proofs.lemmas.List.Sorted.{length_permutation}
 use Rattle.outside.specs.Causes.{Rose}
 use Rattle.outside.specs.Link.{opened}
-use Rattle.outside.specs.Net.{NetState, Poll, asked_of}
+use Rattle.outside.specs.Net.{NetState, asked_of}
 use Rattle.outside.specs.declared.retired.Retired.{Retired}
 use Rattle.outside.specs.declared.types.Peer.{Peer}
 use Rattle.outside.specs.declared.types.Turn.{Turn}

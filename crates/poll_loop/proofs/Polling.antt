@@ -1,5 +1,5 @@
 -- What a poll leaves, and a turn with its poll.
-use Rattle.std.proofs.Common.{◌≡◌, ◌≤◌, ◌<◌, ◌+◌, ◌-◌, ◌⊎◌, ◌&&◌, ◌||◌, inl, inr, ℕ, Bool, true, false, IsTrue, List, [], ◌∷◌, ◌++◌, Option, None, Some, refl, ap, sym, subst, ◌∙◌, arith, length, map, nat_le, take, drop}
+use Rattle.std.proofs.Common.{◌≡◌, ◌≤◌, ◌+◌, ◌-◌, ◌⊎◌, ◌||◌, inl, inr, ℕ, Bool, true, false, List, [], ◌∷◌, ◌++◌, Option, None, Some, refl, ap, sym, subst, ◌∙◌, arith, length, map, take, drop}
 use Rattle.std.specs.Prelude.{unwrap_or}
 use Rattle.std.specs.List.{list_any}
 use Rattle.std.proofs.lemmas.List.{drop-map, map-append, take-append-drop, take-map}
@@ -10,7 +10,7 @@ use Rattle.outside.specs.declared.retired.Retired.{Retired}
 use Rattle.outside.specs.declared.types.Peer.{Peer}
 use Rattle.outside.specs.declared.types.Turn.{Turn}
 use Rattle.outside.specs.declared.types.Want.{Want}
-use Rattle.channel.specs.Views.{View, is_due}
+use Rattle.channel.specs.Views.{is_due}
 use Rattle.channel.specs.declared.types.Window.{Window}
 use Rattle.poll_loop.specs.Accounts.{Accounts, Books, LastKnows, TimeGoesOn, books}
 use Rattle.poll_loop.specs.Connections.{CameMore, Gathers, IsAsked, IsNow, works}

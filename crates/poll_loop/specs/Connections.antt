@@ -3,15 +3,19 @@ use Rattle.std.specs.Prelude.{◌≡◌, ◌≤◌, ◌<◌, ◌+◌, ◌⊎◌,
 use Rattle.std.specs.List.{list_any}
 use Rattle.channel.specs.Owed.{owed_by}
 use Rattle.channel.specs.Output.{Script}
-use Rattle.channel.specs.Views.{Telling, fresh}
+use Rattle.channel.specs.Views.{fresh, Telling, telling}
 use Rattle.outside.specs.Causes.{Rose}
 use Rattle.outside.specs.Link.{opened}
 use Rattle.outside.specs.Net.{NetState, asked_of, last_moment}
+use Rattle.outside.specs.declared.link.Link.{Ghosts as Links}
 use Rattle.outside.specs.declared.retired.Retired.{Retired}
+use Rattle.outside.specs.declared.spill.Spill.{Ghosts as Spills}
+use Rattle.wsgi.specs.declared.app.App.{Ghosts as Apps}
+use Rattle.wsgi.specs.declared.app.AppRun.{Ghosts as Runs}
 use Rattle.outside.specs.declared.types.Peer.{Peer}
 use Rattle.outside.specs.declared.types.Want.{Want}
 use Rattle.poll_loop.specs.Accounts.{IsShutDown, retired_of}
-use Rattle.poll_loop.specs.Entries.{Grounds, IsTimely, IsWithin, Service}
+use Rattle.poll_loop.specs.Entries.{EntryHolds, Grounds, IsTimely, IsWithin, Service}
 use Rattle.poll_loop.specs.Lists.{EachIs}
 use Rattle.poll_loop.specs.NoIdle.{Answers, Nudges}
 use Rattle.poll_loop.specs.Seat.{Eyes, SeatRests, is_open}
@@ -45,6 +49,16 @@ going_on broke = record { shutdown = ⊥; broke = broke }
 
 abbrev pub shutting_down : Type 0 → Grounds
 shutting_down broke = record { shutdown = Unit {0}; broke = broke }
+
+-- What holds of an entry while serving goes on, and where the server goes down: by the kinds of links, of spills, of the
+-- application and of its runs.
+abbrev pub holds_on : {L P S A R : Type 0} → Links L P → Spills S → Apps A S R → Runs R S → Settings → A → NetState L P → Retired L → Type 0
+holds_on link spill app run settings a =
+    EntryHolds (service_by (telling link.tells spill.tells app.tells) app.script settings a) (going_on (HasBroken run.faults)) link.state link.faults
+
+abbrev pub holds_down : {L P S A R : Type 0} → Links L P → Spills S → Apps A S R → Runs R S → Settings → A → NetState L P → Retired L → Type 0
+holds_down link spill app run settings a =
+    EntryHolds (service_by (telling link.tells spill.tells app.tells) app.script settings a) (shutting_down (HasBroken run.faults)) link.state link.faults
 
 -- ---- the seats
 

@@ -4,6 +4,7 @@ use Rattle.channel.specs.Views.{Heard, LinkGoes, Moves, Seen, Shown, Spoke, Stam
 use Rattle.channel.specs.declared.types.Window.{Window}
 use Rattle.outside.specs.Link.{LinkState}
 use Rattle.outside.specs.Net.{asked_of}
+use Rattle.outside.specs.declared.link.Link.{Ghosts}
 use Rattle.outside.specs.declared.types.End.{End}
 use Rattle.outside.specs.declared.types.End.TheVariants as over
 use Rattle.outside.specs.declared.types.Want.{Want}
@@ -158,8 +159,8 @@ pub record Eyes (L P : Type 0) : Type 0 where
   pub key : L → ℕ
   pub plan : L → P
 
-abbrev pub eyes : {L P : Type 0} → Bool → (L → LinkState) → (L → ℕ) → (L → ℕ) → (L → P) → Eyes L P
-eyes tells state faults key plan = record { tells = tells; state = state; faults = faults; key = key; plan = plan }
+abbrev pub eyes_of : {L P : Type 0} → Ghosts L P → Eyes L P
+eyes_of link = record { tells = link.tells; state = link.state; faults = link.faults; key = link.key; plan = link.plan }
 
 abbrev pub viewed : {L P A : Type 0} → Eyes L P → Seen L A → View
 viewed e lane = view e.state e.faults e.key lane

@@ -1,28 +1,11 @@
 //! From an accept to a seat.
-ghost use Rattle.std.specs.Prelude.{◌≡◌, ◌≤◌, ◌<◌, ◌+◌, ◌&&◌, ◌-◌, ◌^◌, false, IsTrue, IsSome, IfNone, IfErr, OnOk, OnErr, length, nat_lt, vec_capacity, vec_len};
-ghost use Rattle.channel.specs.Views.{telling};
+ghost use Rattle.std.specs.Prelude.{◌≡◌, ◌≤◌, ◌<◌, ◌+◌, ◌&&◌, ◌-◌, ◌^◌, false, IsTrue, IsSome, IfNone, IfErr, OnOk, OnErr, length, nat_lt, vec_capacity};
 ghost use Rattle.outside.specs.Link.{opened};
 ghost use Rattle.poll_loop.specs.Accounts.{Accounts, books};
-ghost use Rattle.poll_loop.specs.Connections.{
-  AcceptsAll,
-  CameAll,
-  CameBy,
-  CameCause,
-  CameMore,
-  CameUntil,
-  Counted,
-  FaultCause,
-  HasBroken,
-  SamePolls,
-  SeatsOne,
-  Takes,
-  going_on,
-  seated,
-  service_by,
-};
-ghost use Rattle.poll_loop.specs.Entries.{EntryHolds, IsWithin};
+ghost use Rattle.poll_loop.specs.Connections.{AcceptsAll, CameAll, CameBy, CameCause, CameMore, CameUntil, Counted, FaultCause, SamePolls, SeatsOne, Takes, holds_on, seated};
+ghost use Rattle.poll_loop.specs.Entries.{IsWithin};
 ghost use Rattle.poll_loop.specs.NoIdle.{Answers};
-ghost use Rattle.poll_loop.specs.Seat.{eyes};
+ghost use Rattle.poll_loop.specs.Seat.{eyes_of};
 ghost use Rattle.poll_loop.specs.Settings.{AreUsable, is_below};
 
 use crate::connections::{Came, Connections};
@@ -56,7 +39,8 @@ pub(crate) fn below(limit: Option<u64>, count: u64) -> bool
 
 /// Whether there is room for a connection and more are to be served.
 pub(crate) fn accepts(settings: &Settings, seats: usize, accepted: u64) -> bool
-    ensures room { result ≡ (nat_lt seats settings.now.connection_limit && is_below settings.now.serve_limit accepted) }
+    ensures room { result ≡ (nat_lt seats settings.now.connection_limit && is_below
+        settings.now.serve_limit accepted) }
     ensures more { IsTrue result → IsSome settings.now.serve_limit → accepted < 2 ^ 64 - 1 }
 {
     (seats as u64) < settings.connection_limit && below(settings.serve_limit, accepted)
@@ -71,16 +55,18 @@ fn seat_link<'a, L: Link + Drop, A: App<P::Spill>, P: Spills>(
     spills: &mut P,
 ) -> Result<(), (L, Peer)>
     requires usable { AreUsable opening.now.settings.now }
-    requires shelf { length connections.old.fallen.items + length connections.old.seats.items ≤ vec_capacity connections.old.fallen }
+    requires shelf { length connections.old.fallen.items + length connections.old.seats.items ≤
+        vec_capacity connections.old.fallen }
     requires fresh { IsTrue L.tells → L.state link ≡ opened opening.now.moment }
-    ensures seated { OnOk result (SeatsOne (eyes L.tells L.state L.faults L.key L.plan) opening.now.settings.now
+    ensures seated { OnOk result (SeatsOne (eyes_of L.Link) opening.now.settings.now
         opening.now.app.now opening.now.moment link peer connections.old.seats.items connections.new.seats.items) }
     ensures back { IfErr result (λ back. (back.0 ≡ link) × (back.1 ≡ peer)) }
     ensures kept { OnErr result (connections.new.seats.items ≡ connections.old.seats.items) }
     ensures fallen { connections.new.fallen.items ≡ connections.old.fallen.items }
     ensures accepted { connections.new.accepted ≡ connections.old.accepted }
     ensures retired { connections.new.retired ≡ connections.old.retired }
-    ensures shelf { length connections.new.fallen.items + length connections.new.seats.items ≤ vec_capacity connections.new.fallen }
+    ensures shelf { length connections.new.fallen.items + length connections.new.seats.items ≤
+        vec_capacity connections.new.fallen }
     ensures spills { P.faults spills.new ≡ P.faults spills.old }
 {
     let more = connections.seats.len() + 1;
@@ -125,33 +111,39 @@ fn accept_one<'a, N: Net, A: App<P::Spill>, P: Spills>(
     spills: &mut P,
 ) -> Came
     requires usable { AreUsable opening.now.settings.now }
-    requires shelf { length connections.old.fallen.items + length connections.old.seats.items ≤ vec_capacity connections.old.fallen }
+    requires shelf { length connections.old.fallen.items + length connections.old.seats.items ≤
+        vec_capacity connections.old.fallen }
     requires within { IsTrue N.tells → IsWithin (N.state net.old) opening.now.moment }
     requires more { IsTrue (is_below opening.now.settings.now.serve_limit connections.old.accepted) }
-    requires bounded { IsSome opening.now.settings.now.serve_limit → connections.old.accepted < 2 ^ 64 - 1 }
-    requires counted { Counted opening.now.settings.now.serve_limit connections.old.accepted connections.old.retired
+    requires bounded { IsSome opening.now.settings.now.serve_limit →
+        connections.old.accepted < 2 ^ 64 - 1 }
+    requires counted { Counted opening.now.settings.now.serve_limit connections.old.accepted
+        connections.old.retired
         (length connections.old.seats.items) }
-    ensures takes { Takes (eyes N.Link.tells N.Link.state N.Link.faults N.Link.key N.Link.plan) opening.now.settings.now
+    ensures takes { Takes (eyes_of N.Link.Link) opening.now.settings.now
         opening.now.app.now opening.now.moment connections.old.seats.items connections.new.seats.items }
     ensures few { length connections.new.seats.items ≤ length connections.old.seats.items + 1 }
     ensures accounts { IsTrue N.tells → Accounts
-        (EntryHolds (service_by (telling N.Link.tells P.Spill.tells A.tells) A.script opening.now.settings.now opening.now.app.now)
-        (going_on (HasBroken A.Run.faults)) N.Link.state N.Link.faults) N.Link.plan
+        (holds_on N.Link.Link P.Spill.Spill A.App A.Run.AppRun opening.now.settings.now
+        opening.now.app.now) N.Link.plan
         (books (N.state net.old) (P.faults spills.old) (length connections.old.fallen.items)
-        (seated (eyes N.Link.tells N.Link.state N.Link.faults N.Link.key N.Link.plan) connections.old.seats.items))
+        (seated (eyes_of N.Link.Link) connections.old.seats.items))
         (books (N.state net.new) (P.faults spills.new) (length connections.new.fallen.items)
-        (seated (eyes N.Link.tells N.Link.state N.Link.faults N.Link.key N.Link.plan) connections.new.seats.items)) }
+        (seated (eyes_of N.Link.Link) connections.new.seats.items)) }
     ensures same_polls { IsTrue N.tells → SamePolls (N.state net.old) (N.state net.new) }
     ensures came { IsTrue N.tells → CameBy result (N.state net.old) (N.state net.new) }
     ensures cause { CameCause result (N.poll_faults net.old) (N.poll_faults net.new) }
-    ensures counted { Counted opening.now.settings.now.serve_limit connections.new.accepted connections.new.retired
+    ensures counted { Counted opening.now.settings.now.serve_limit connections.new.accepted
+        connections.new.retired
         (length connections.new.seats.items) }
-    ensures came_more { IsTrue N.tells → CameMore opening.now.settings.now.serve_limit connections.old.accepted connections.new.accepted
+    ensures came_more { IsTrue N.tells → CameMore opening.now.settings.now.serve_limit
+        connections.old.accepted connections.new.accepted
         (length (N.state net.old).given) (length (N.state net.new).given) }
     ensures bind { N.bind_faults net.new ≡ N.bind_faults net.old }
     ensures plan { N.plan net.new ≡ N.plan net.old }
     ensures moment { N.moment net.new ≡ N.moment net.old }
-    ensures shelf { length connections.new.fallen.items + length connections.new.seats.items ≤ vec_capacity connections.new.fallen }
+    ensures shelf { length connections.new.fallen.items + length connections.new.seats.items ≤
+        vec_capacity connections.new.fallen }
     ensures fallen { connections.new.fallen.items ≡ connections.old.fallen.items }
     ensures spills { P.faults spills.new ≡ P.faults spills.old }
 {
@@ -181,35 +173,42 @@ fn accept_all<'a, N: Net, A: App<P::Spill>, P: Spills>(
     spills: &mut P,
 ) -> Came
     requires usable { AreUsable opening.now.settings.now }
-    requires shelf { length connections.old.fallen.items + length connections.old.seats.items ≤ vec_capacity connections.old.fallen }
+    requires shelf { length connections.old.fallen.items + length connections.old.seats.items ≤
+        vec_capacity connections.old.fallen }
     requires within { IsTrue N.tells → IsWithin (N.state net.old) opening.now.moment }
-    requires more { IsTrue (nat_lt (length connections.old.seats.items) opening.now.settings.now.connection_limit
+    requires more { IsTrue (nat_lt (length connections.old.seats.items)
+        opening.now.settings.now.connection_limit
         && is_below opening.now.settings.now.serve_limit connections.old.accepted) }
-    requires counted { Counted opening.now.settings.now.serve_limit connections.old.accepted connections.old.retired
+    requires counted { Counted opening.now.settings.now.serve_limit connections.old.accepted
+        connections.old.retired
         (length connections.old.seats.items) }
-    ensures takes { Takes (eyes N.Link.tells N.Link.state N.Link.faults N.Link.key N.Link.plan) opening.now.settings.now
+    ensures takes { Takes (eyes_of N.Link.Link) opening.now.settings.now
         opening.now.app.now opening.now.moment connections.old.seats.items connections.new.seats.items }
     ensures within { length connections.new.seats.items ≤ opening.now.settings.now.connection_limit }
     ensures accounts { IsTrue N.tells → Accounts
-        (EntryHolds (service_by (telling N.Link.tells P.Spill.tells A.tells) A.script opening.now.settings.now opening.now.app.now)
-        (going_on (HasBroken A.Run.faults)) N.Link.state N.Link.faults) N.Link.plan
+        (holds_on N.Link.Link P.Spill.Spill A.App A.Run.AppRun opening.now.settings.now
+        opening.now.app.now) N.Link.plan
         (books (N.state net.old) (P.faults spills.old) (length connections.old.fallen.items)
-        (seated (eyes N.Link.tells N.Link.state N.Link.faults N.Link.key N.Link.plan) connections.old.seats.items))
+        (seated (eyes_of N.Link.Link) connections.old.seats.items))
         (books (N.state net.new) (P.faults spills.new) (length connections.new.fallen.items)
-        (seated (eyes N.Link.tells N.Link.state N.Link.faults N.Link.key N.Link.plan) connections.new.seats.items)) }
+        (seated (eyes_of N.Link.Link) connections.new.seats.items)) }
     ensures same_polls { IsTrue N.tells → SamePolls (N.state net.old) (N.state net.new) }
     ensures came { IsTrue N.tells → CameAll result (N.state net.old) (N.state net.new) }
-    ensures all { IsTrue N.tells → CameUntil result opening.now.settings.now (length connections.old.seats.items)
+    ensures all { IsTrue N.tells → CameUntil result opening.now.settings.now
+        (length connections.old.seats.items)
         connections.new.accepted (N.state net.old) (N.state net.new) }
     ensures cause { CameCause result (N.poll_faults net.old) (N.poll_faults net.new) }
-    ensures counted { Counted opening.now.settings.now.serve_limit connections.new.accepted connections.new.retired
+    ensures counted { Counted opening.now.settings.now.serve_limit connections.new.accepted
+        connections.new.retired
         (length connections.new.seats.items) }
-    ensures came_more { IsTrue N.tells → CameMore opening.now.settings.now.serve_limit connections.old.accepted connections.new.accepted
+    ensures came_more { IsTrue N.tells → CameMore opening.now.settings.now.serve_limit
+        connections.old.accepted connections.new.accepted
         (length (N.state net.old).given) (length (N.state net.new).given) }
     ensures bind { N.bind_faults net.new ≡ N.bind_faults net.old }
     ensures plan { N.plan net.new ≡ N.plan net.old }
     ensures moment { N.moment net.new ≡ N.moment net.old }
-    ensures shelf { length connections.new.fallen.items + length connections.new.seats.items ≤ vec_capacity connections.new.fallen }
+    ensures shelf { length connections.new.fallen.items + length connections.new.seats.items ≤
+        vec_capacity connections.new.fallen }
     ensures fallen { connections.new.fallen.items ≡ connections.old.fallen.items }
     ensures spills { P.faults spills.new ≡ P.faults spills.old }
 {
@@ -238,37 +237,46 @@ pub(crate) fn accept_if<'a, N: Net, A: App<P::Spill>, P: Spills>(
     spills: &mut P,
 ) -> Option<ServeFault>
     requires usable { AreUsable opening.now.settings.now }
-    requires shelf { length connections.old.fallen.items + length connections.old.seats.items ≤ vec_capacity connections.old.fallen }
+    requires shelf { length connections.old.fallen.items + length connections.old.seats.items ≤
+        vec_capacity connections.old.fallen }
     requires within { IsTrue N.tells → IsWithin (N.state net.old) opening.now.moment }
-    requires more { IsTrue come → IsTrue (nat_lt (length connections.old.seats.items) opening.now.settings.now.connection_limit
+    requires more { IsTrue come → IsTrue (nat_lt (length connections.old.seats.items)
+        opening.now.settings.now.connection_limit
         && is_below opening.now.settings.now.serve_limit connections.old.accepted) }
-    requires counted { Counted opening.now.settings.now.serve_limit connections.old.accepted connections.old.retired
+    requires counted { Counted opening.now.settings.now.serve_limit connections.old.accepted
+        connections.old.retired
         (length connections.old.seats.items) }
-    ensures takes { Takes (eyes N.Link.tells N.Link.state N.Link.faults N.Link.key N.Link.plan) opening.now.settings.now
+    ensures takes { Takes (eyes_of N.Link.Link) opening.now.settings.now
         opening.now.app.now opening.now.moment connections.old.seats.items connections.new.seats.items }
     ensures within { length connections.old.seats.items ≤ opening.now.settings.now.connection_limit →
         length connections.new.seats.items ≤ opening.now.settings.now.connection_limit }
     ensures accounts { IsTrue N.tells → Accounts
-        (EntryHolds (service_by (telling N.Link.tells P.Spill.tells A.tells) A.script opening.now.settings.now opening.now.app.now)
-        (going_on (HasBroken A.Run.faults)) N.Link.state N.Link.faults) N.Link.plan
+        (holds_on N.Link.Link P.Spill.Spill A.App A.Run.AppRun opening.now.settings.now
+        opening.now.app.now) N.Link.plan
         (books (N.state net.old) (P.faults spills.old) (length connections.old.fallen.items)
-        (seated (eyes N.Link.tells N.Link.state N.Link.faults N.Link.key N.Link.plan) connections.old.seats.items))
+        (seated (eyes_of N.Link.Link) connections.old.seats.items))
         (books (N.state net.new) (P.faults spills.new) (length connections.new.fallen.items)
-        (seated (eyes N.Link.tells N.Link.state N.Link.faults N.Link.key N.Link.plan) connections.new.seats.items)) }
+        (seated (eyes_of N.Link.Link) connections.new.seats.items)) }
     ensures same_polls { IsTrue N.tells → SamePolls (N.state net.old) (N.state net.new) }
-    ensures answers { IfNone result (IsTrue come → IsTrue N.tells → Answers (N.state net.old) (N.state net.new)) }
+    ensures answers { IfNone result (IsTrue come → IsTrue N.tells → Answers (N.state net.old)
+        (N.state net.new)) }
     ensures all { IfNone result (IsTrue come → IsTrue N.tells → AcceptsAll opening.now.settings.now
-        (length connections.old.seats.items) connections.new.accepted (N.state net.old) (N.state net.new)) }
-    ensures uncalled { come ≡ false → IsTrue N.tells → (N.state net.new).given ≡ (N.state net.old).given }
+        (length connections.old.seats.items) connections.new.accepted (N.state net.old)
+        (N.state net.new)) }
+    ensures uncalled { come ≡ false → IsTrue N.tells → (N.state net.new).given ≡
+        (N.state net.old).given }
     ensures cause { FaultCause result (N.poll_faults net.old) (N.poll_faults net.new) }
-    ensures counted { Counted opening.now.settings.now.serve_limit connections.new.accepted connections.new.retired
+    ensures counted { Counted opening.now.settings.now.serve_limit connections.new.accepted
+        connections.new.retired
         (length connections.new.seats.items) }
-    ensures came_more { IsTrue N.tells → CameMore opening.now.settings.now.serve_limit connections.old.accepted connections.new.accepted
+    ensures came_more { IsTrue N.tells → CameMore opening.now.settings.now.serve_limit
+        connections.old.accepted connections.new.accepted
         (length (N.state net.old).given) (length (N.state net.new).given) }
     ensures bind { N.bind_faults net.new ≡ N.bind_faults net.old }
     ensures plan { N.plan net.new ≡ N.plan net.old }
     ensures moment { N.moment net.new ≡ N.moment net.old }
-    ensures shelf { length connections.new.fallen.items + length connections.new.seats.items ≤ vec_capacity connections.new.fallen }
+    ensures shelf { length connections.new.fallen.items + length connections.new.seats.items ≤
+        vec_capacity connections.new.fallen }
     ensures fallen { connections.new.fallen.items ≡ connections.old.fallen.items }
     ensures spills { P.faults spills.new ≡ P.faults spills.old }
 {

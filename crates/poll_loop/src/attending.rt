@@ -1,7 +1,7 @@
 //! The part of a turn that is each connection's own.
-ghost use Rattle.std.specs.Prelude.{◌≡◌, IsTrue, length};
+ghost use Rattle.std.specs.Prelude.{◌≡◌, length};
 ghost use Rattle.poll_loop.specs.Lists.{Both, EachIs, Paired, UpTo};
-ghost use Rattle.poll_loop.specs.Seat.{ChecksIf, Labours, SeatAsks, SeatChecks, SeatOut, SeatRests, SeatTurns, eyes};
+ghost use Rattle.poll_loop.specs.Seat.{Labours, SeatAsks, SeatChecks, SeatOut, SeatRests, SeatTurns, eyes_of};
 
 use crate::seat::Seat;
 use channel::Window;
@@ -33,8 +33,8 @@ fn attend_all<'a, L: Link + Drop, A: App<S>, S: Spill + Send + Drop, P: Spills<S
     spills: &mut P,
 )
     requires recv { length rooms.old.recv.items ≡ round.window.recv_bytes }
-    requires asks { Paired (SeatAsks (eyes L.tells L.state L.faults L.key L.plan) round.window) wants.now seats.old }
-    ensures turns { UpTo (SeatTurns (eyes L.tells L.state L.faults L.key L.plan) round.now round.window)
+    requires asks { Paired (SeatAsks (eyes_of L.Link) round.window) wants.now seats.old }
+    ensures turns { UpTo (SeatTurns (eyes_of L.Link) round.now round.window)
         (length wants.now) wants.now seats.old seats.new }
     ensures rooms { length rooms.new.recv.items ≡ length rooms.old.recv.items }
     ensures spills { P.faults spills.new ≡ P.faults spills.old }
@@ -60,8 +60,8 @@ fn check_all<'a, L: Link + Drop, A: App<S>, S: Spill + Send + Drop>(
     round: Round,
     rooms: &mut Rooms,
 )
-    requires out { EachIs (SeatOut (eyes L.tells L.state L.faults L.key L.plan) round.now round.window) seats.old }
-    ensures checks { Both (SeatChecks (eyes L.tells L.state L.faults L.key L.plan) round.now round.window) seats.old seats.new }
+    requires out { EachIs (SeatOut (eyes_of L.Link) round.now round.window) seats.old }
+    ensures checks { Both (SeatChecks (eyes_of L.Link) round.now round.window) seats.old seats.new }
     ensures rooms { length rooms.new.recv.items ≡ length rooms.old.recv.items }
 {
     for i in 0..seats.len() {
@@ -80,10 +80,11 @@ fn labour<'a, L: Link + Drop, A: App<S>, S: Spill + Send + Drop, P: Spills<Spill
     spills: &mut P,
 )
     requires recv { length rooms.old.recv.items ≡ round.window.recv_bytes }
-    requires asks { Paired (SeatAsks (eyes L.tells L.state L.faults L.key L.plan) round.window) wants.now seats.old }
-    requires rest { EachIs (SeatRests (eyes L.tells L.state L.faults L.key L.plan) round.window) seats.old }
-    ensures labours { Labours round.due (eyes L.tells L.state L.faults L.key L.plan) round.now round.window wants.now seats.old seats.new }
-    ensures out { EachIs (SeatOut (eyes L.tells L.state L.faults L.key L.plan) round.now round.window) seats.new }
+    requires asks { Paired (SeatAsks (eyes_of L.Link) round.window) wants.now seats.old }
+    requires rest { EachIs (SeatRests (eyes_of L.Link) round.window) seats.old }
+    ensures labours { Labours round.due (eyes_of L.Link) round.now round.window wants.now seats.old
+        seats.new }
+    ensures out { EachIs (SeatOut (eyes_of L.Link) round.now round.window) seats.new }
     ensures rooms { length rooms.new.recv.items ≡ length rooms.old.recv.items }
     ensures spills { P.faults spills.new ≡ P.faults spills.old }
 {
@@ -108,10 +109,11 @@ pub(crate) fn labour_all<
     spills: &mut P,
 )
     requires recv { length rooms.old.recv.items ≡ round.window.recv_bytes }
-    requires asks { Paired (SeatAsks (eyes L.tells L.state L.faults L.key L.plan) round.window) wants.now seats.old.items }
-    requires rest { EachIs (SeatRests (eyes L.tells L.state L.faults L.key L.plan) round.window) seats.old.items }
-    ensures labours { Labours round.due (eyes L.tells L.state L.faults L.key L.plan) round.now round.window wants.now seats.old.items seats.new.items }
-    ensures out { EachIs (SeatOut (eyes L.tells L.state L.faults L.key L.plan) round.now round.window) seats.new.items }
+    requires asks { Paired (SeatAsks (eyes_of L.Link) round.window) wants.now seats.old.items }
+    requires rest { EachIs (SeatRests (eyes_of L.Link) round.window) seats.old.items }
+    ensures labours { Labours round.due (eyes_of L.Link) round.now round.window wants.now
+        seats.old.items seats.new.items }
+    ensures out { EachIs (SeatOut (eyes_of L.Link) round.now round.window) seats.new.items }
     ensures rooms { length rooms.new.recv.items ≡ length rooms.old.recv.items }
     ensures spills { P.faults spills.new ≡ P.faults spills.old }
 {

@@ -1,25 +1,13 @@
 //! From a seat to the entry of a connection that was retired.
 ghost use Rattle.std.specs.Prelude.{◌≡◌, ◌≤◌, ◌<◌, ◌+◌, IsTrue, [], ◌∷◌, All, Some, length, filter, vec_capacity};
-ghost use Rattle.channel.specs.Views.{over_of, telling};
+ghost use Rattle.channel.specs.Views.{over_of};
 ghost use Rattle.outside.specs.Net.{last_moment};
 ghost use Rattle.poll_loop.specs.Accounts.{Accounts, books};
-ghost use Rattle.poll_loop.specs.Connections.{
-  Counted,
-  HasBroken,
-  IsOpenedBy,
-  OnlyRetires,
-  SeatIsTimely,
-  ShutsDown,
-  going_on,
-  is_kept,
-  seated,
-  service_by,
-  shutting_down,
-};
-ghost use Rattle.poll_loop.specs.Entries.{EntryHolds, IsTimely, is_app_fault};
+ghost use Rattle.poll_loop.specs.Connections.{Counted, IsOpenedBy, OnlyRetires, SeatIsTimely, ShutsDown, holds_down, holds_on, is_kept, seated};
+ghost use Rattle.poll_loop.specs.Entries.{IsTimely, is_app_fault};
 ghost use Rattle.poll_loop.specs.Lists.{EachIs};
 ghost use Rattle.poll_loop.specs.Retiring.{EndsAt, Keeps, PutsRun, Settles};
-ghost use Rattle.poll_loop.specs.Seat.{BearsMoment, SeatOut, eyes};
+ghost use Rattle.poll_loop.specs.Seat.{BearsMoment, SeatOut, eyes_of};
 ghost use Rattle.poll_loop.specs.Settings.{fixed_by};
 
 use crate::connections::Connections;
@@ -97,7 +85,8 @@ fn put_run<R: AppRun<P::Spill> + Drop, P: Spills>(
     spills: &mut P,
 )
     requires room { length fallen.old.items + 1 ≤ vec_capacity fallen.old }
-    ensures puts { PutsRun (is_app_fault end) R.spill_faults run fallen.old.items fallen.new.items (P.faults spills.old) (P.faults spills.new) }
+    ensures puts { PutsRun (is_app_fault end) R.spill_faults run fallen.old.items fallen.new.items
+        (P.faults spills.old) (P.faults spills.new) }
     ensures capacity { vec_capacity fallen.old ≤ vec_capacity fallen.new }
 {
     if is_by_app(end) {
@@ -121,12 +110,12 @@ fn retire_lane<'a, N: Net, A: App<P::Spill>, P: Spills>(
     requires bears { IsTrue N.tells → BearsMoment (last_moment (N.state net.old).last) end }
     requires by { lane.fixed ≡ fixed_by settings.now app.now lane.peer }
     requires live { IsTrue N.tells → 1 ≤ (N.state net.old).live }
-    requires timely { IsTrue N.tells → IsTrue N.Link.tells → IsTimely (N.state net.old) (N.Link.state lane.link) }
+    requires timely { IsTrue N.tells → IsTrue N.Link.tells → IsTimely (N.state net.old)
+        (N.Link.state lane.link) }
     requires room { length fallen.old.items + 1 ≤ vec_capacity fallen.old }
     requires broke { All (λ run. 0 < A.Run.faults run) fallen.old.items }
     ensures accounts { IsTrue N.tells → Accounts
-        (EntryHolds (service_by (telling N.Link.tells P.Spill.tells A.tells) A.script settings.now app.now)
-        (going_on (HasBroken A.Run.faults)) N.Link.state N.Link.faults) N.Link.plan
+        (holds_on N.Link.Link P.Spill.Spill A.App A.Run.AppRun settings.now app.now) N.Link.plan
         (books (N.state net.old) (P.faults spills.old) (length fallen.old.items)
         ((lane.entry.peer, N.Link.plan lane.entry.link) ∷ []))
         (books (N.state net.new) (P.faults spills.new) (length fallen.new.items) []) }
@@ -168,27 +157,30 @@ pub(crate) fn retire_over<'a, N: Net, A: App<P::Spill>, P: Spills>(
     net: &mut N,
     spills: &mut P,
 )
-    requires out { EachIs (SeatOut (eyes N.Link.tells N.Link.state N.Link.faults N.Link.key N.Link.plan) moment settings.now.window)
+    requires out { EachIs (SeatOut (eyes_of N.Link.Link) moment settings.now.window)
         connections.old.seats.items }
     requires by { EachIs (IsOpenedBy settings.now app.now) connections.old.seats.items }
     requires room { IsTrue N.tells → length connections.old.seats.items ≤ (N.state net.old).live }
-    requires timely { IsTrue N.tells → EachIs (SeatIsTimely (eyes N.Link.tells N.Link.state N.Link.faults N.Link.key N.Link.plan)
+    requires timely { IsTrue N.tells → EachIs (SeatIsTimely (eyes_of N.Link.Link)
         (N.state net.old)) connections.old.seats.items }
     requires moment { IsTrue N.tells → last_moment (N.state net.old).last ≡ moment }
-    requires counted { Counted settings.now.serve_limit connections.old.accepted connections.old.retired (length connections.old.seats.items) }
-    requires shelf { length connections.old.fallen.items + length connections.old.seats.items ≤ vec_capacity connections.old.fallen }
+    requires counted { Counted settings.now.serve_limit connections.old.accepted
+        connections.old.retired (length connections.old.seats.items) }
+    requires shelf { length connections.old.fallen.items + length connections.old.seats.items ≤
+        vec_capacity connections.old.fallen }
     requires broke { All (λ run. 0 < A.Run.faults run) connections.old.fallen.items }
     ensures kept { connections.new.seats.items ≡ filter is_kept connections.old.seats.items }
     ensures accounts { IsTrue N.tells → Accounts
-        (EntryHolds (service_by (telling N.Link.tells P.Spill.tells A.tells) A.script settings.now app.now)
-        (going_on (HasBroken A.Run.faults)) N.Link.state N.Link.faults) N.Link.plan
+        (holds_on N.Link.Link P.Spill.Spill A.App A.Run.AppRun settings.now app.now) N.Link.plan
         (books (N.state net.old) (P.faults spills.old) (length connections.old.fallen.items)
-        (seated (eyes N.Link.tells N.Link.state N.Link.faults N.Link.key N.Link.plan) connections.old.seats.items))
+        (seated (eyes_of N.Link.Link) connections.old.seats.items))
         (books (N.state net.new) (P.faults spills.new) (length connections.new.fallen.items)
-        (seated (eyes N.Link.tells N.Link.state N.Link.faults N.Link.key N.Link.plan) connections.new.seats.items)) }
+        (seated (eyes_of N.Link.Link) connections.new.seats.items)) }
     ensures net { IsTrue N.tells → OnlyRetires (N.state net.old) (N.state net.new) }
-    ensures counted { Counted settings.now.serve_limit connections.new.accepted connections.new.retired (length connections.new.seats.items) }
-    ensures shelf { length connections.new.fallen.items + length connections.new.seats.items ≤ vec_capacity connections.new.fallen }
+    ensures counted { Counted settings.now.serve_limit connections.new.accepted
+        connections.new.retired (length connections.new.seats.items) }
+    ensures shelf { length connections.new.fallen.items + length connections.new.seats.items ≤
+        vec_capacity connections.new.fallen }
     ensures broke { All (λ run. 0 < A.Run.faults run) connections.new.fallen.items }
     ensures accepted { connections.new.accepted ≡ connections.old.accepted }
     ensures bind { N.bind_faults net.new ≡ N.bind_faults net.old }
@@ -227,10 +219,11 @@ fn shut_lane<'a, N: Net, A: App<S>, S: Spill + Send + Drop>(
 )
     requires by { lane.fixed ≡ fixed_by settings.now app.now lane.peer }
     requires live { IsTrue N.tells → 1 ≤ (N.state net.old).live }
-    requires timely { IsTrue N.tells → IsTrue N.Link.tells → IsTimely (N.state net.old) (N.Link.state lane.link) }
+    requires timely { IsTrue N.tells → IsTrue N.Link.tells → IsTimely (N.state net.old)
+        (N.Link.state lane.link) }
     ensures shuts { IsTrue N.tells → ShutsDown
-        (EntryHolds (service_by (telling N.Link.tells S.tells A.tells) A.script settings.now app.now)
-        (shutting_down (HasBroken A.Run.faults)) N.Link.state N.Link.faults (N.state net.new)) N.Link.plan
+        (holds_down N.Link.Link S.Spill A.App A.Run.AppRun settings.now app.now
+        (N.state net.new)) N.Link.plan
         ((lane.entry.peer, N.Link.plan lane.entry.link) ∷ [])
         (N.state net.old) (N.state net.new) }
     ensures bind { N.bind_faults net.new ≡ N.bind_faults net.old }
@@ -253,19 +246,23 @@ pub(crate) fn shut_down<'a, N: Net, A: App<P::Spill>, P: Spills>(
 )
     requires by { EachIs (IsOpenedBy settings.now app.now) connections.old.seats.items }
     requires room { IsTrue N.tells → length connections.old.seats.items ≤ (N.state net.old).live }
-    requires timely { IsTrue N.tells → EachIs (SeatIsTimely (eyes N.Link.tells N.Link.state N.Link.faults N.Link.key N.Link.plan)
+    requires timely { IsTrue N.tells → EachIs (SeatIsTimely (eyes_of N.Link.Link)
         (N.state net.old)) connections.old.seats.items }
-    requires counted { Counted settings.now.serve_limit connections.old.accepted connections.old.retired (length connections.old.seats.items) }
-    requires shelf { length connections.old.fallen.items + length connections.old.seats.items ≤ vec_capacity connections.old.fallen }
+    requires counted { Counted settings.now.serve_limit connections.old.accepted
+        connections.old.retired (length connections.old.seats.items) }
+    requires shelf { length connections.old.fallen.items + length connections.old.seats.items ≤
+        vec_capacity connections.old.fallen }
     ensures empty { connections.new.seats.items ≡ [] }
     ensures fallen { connections.new.fallen.items ≡ connections.old.fallen.items }
     ensures shuts { IsTrue N.tells → ShutsDown
-        (EntryHolds (service_by (telling N.Link.tells P.Spill.tells A.tells) A.script settings.now app.now)
-        (shutting_down (HasBroken A.Run.faults)) N.Link.state N.Link.faults (N.state net.new)) N.Link.plan
-        (seated (eyes N.Link.tells N.Link.state N.Link.faults N.Link.key N.Link.plan) connections.old.seats.items)
+        (holds_down N.Link.Link P.Spill.Spill A.App A.Run.AppRun settings.now app.now
+        (N.state net.new)) N.Link.plan
+        (seated (eyes_of N.Link.Link) connections.old.seats.items)
         (N.state net.old) (N.state net.new) }
-    ensures counted { Counted settings.now.serve_limit connections.new.accepted connections.new.retired (length connections.new.seats.items) }
-    ensures shelf { length connections.new.fallen.items + length connections.new.seats.items ≤ vec_capacity connections.new.fallen }
+    ensures counted { Counted settings.now.serve_limit connections.new.accepted
+        connections.new.retired (length connections.new.seats.items) }
+    ensures shelf { length connections.new.fallen.items + length connections.new.seats.items ≤
+        vec_capacity connections.new.fallen }
     ensures accepted { connections.new.accepted ≡ connections.old.accepted }
     ensures bind { N.bind_faults net.new ≡ N.bind_faults net.old }
     ensures polls { N.poll_faults net.new ≡ N.poll_faults net.old }

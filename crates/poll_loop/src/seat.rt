@@ -1,7 +1,7 @@
 //! One connection among many.
-ghost use Rattle.std.specs.Prelude.{◌≡◌, ◌⊎◌, ◌&&◌, IsTrue, IsSome, None, false, length};
+ghost use Rattle.std.specs.Prelude.{◌≡◌, ◌&&◌, None, false, length};
 ghost use Rattle.outside.specs.Net.{asked_of};
-ghost use Rattle.channel.specs.Views.{is_done, is_due, want_of};
+ghost use Rattle.channel.specs.Views.{want_of};
 ghost use Rattle.poll_loop.specs.Seat.{
   Attends,
   DiesAt,
@@ -18,7 +18,7 @@ ghost use Rattle.poll_loop.specs.Seat.{
   SeatHolds,
   Speaks,
   Strides,
-  eyes,
+  eyes_of,
   is_open,
   viewed,
 };
@@ -62,9 +62,10 @@ fn hear<'a, L: Link + Drop, A: App<S>, S: Spill + Send + Drop, P: Spills<Spill =
 ) -> Option<End>
     requires room { length room.old ≡ lane.old.fixed.window.recv_bytes }
     requires up { IsUp lane.old.shown }
-    requires asks { asked_of ready ≡ want_of lane.old.fixed.window (viewed (eyes L.tells L.state L.faults L.key L.plan) lane.old) }
-    ensures goes { Goes (eyes L.tells L.state L.faults L.key L.plan) now lane.old lane.new }
-    ensures hears { OverOr now result lane.new.shown (Hears L.tells lane.old.fixed.window ready (viewed (eyes L.tells L.state L.faults L.key L.plan) lane.old) (viewed (eyes L.tells L.state L.faults L.key L.plan) lane.new)) }
+    requires asks { asked_of ready ≡ want_of lane.old.fixed.window (viewed (eyes_of L.Link) lane.old) }
+    ensures goes { Goes (eyes_of L.Link) now lane.old lane.new }
+    ensures hears { OverOr now result lane.new.shown (Hears L.tells lane.old.fixed.window ready
+        (viewed (eyes_of L.Link) lane.old) (viewed (eyes_of L.Link) lane.new)) }
     ensures spills { P.faults spills.new ≡ P.faults spills.old }
 {
     if !(ready.read && ready.may_read) {
@@ -105,8 +106,9 @@ fn speak<'a, L: Link + Drop, A: App<S>, S: Spill + Send + Drop>(
 ) -> Option<End>
     requires room { length room.old ≡ 65536 }
     requires dies { DiesAt now lane.old.shown.dead }
-    ensures goes { Goes (eyes L.tells L.state L.faults L.key L.plan) now lane.old lane.new }
-    ensures speaks { OverOr now result lane.new.shown (Speaks L.tells (viewed (eyes L.tells L.state L.faults L.key L.plan) lane.old) (viewed (eyes L.tells L.state L.faults L.key L.plan) lane.new)) }
+    ensures goes { Goes (eyes_of L.Link) now lane.old lane.new }
+    ensures speaks { OverOr now result lane.new.shown (Speaks L.tells (viewed
+        (eyes_of L.Link) lane.old) (viewed (eyes_of L.Link) lane.new)) }
 {
     match lane.drain(now, room) {
         Acted::Over(end) => Some(end),
@@ -134,10 +136,12 @@ fn converse<'a, L: Link + Drop, A: App<S>, S: Spill + Send + Drop, P: Spills<Spi
     requires recv_room { length recv_room.old ≡ lane.old.fixed.window.recv_bytes }
     requires send_room { length send_room.old ≡ 65536 }
     requires up { IsUp lane.old.shown }
-    requires asks { asked_of ready ≡ want_of lane.old.fixed.window (viewed (eyes L.tells L.state L.faults L.key L.plan) lane.old) }
+    requires asks { asked_of ready ≡ want_of lane.old.fixed.window (viewed (eyes_of L.Link) lane.old) }
     requires called { IsCalled lane.old.fixed.window ready lane.old.shown }
-    ensures goes { Goes (eyes L.tells L.state L.faults L.key L.plan) now lane.old lane.new }
-    ensures attends { OverOrMarked now lane.old.fixed.window result (viewed (eyes L.tells L.state L.faults L.key L.plan) lane.new) (Attends L.tells lane.old.fixed.window ready (viewed (eyes L.tells L.state L.faults L.key L.plan) lane.old) (viewed (eyes L.tells L.state L.faults L.key L.plan) lane.new)) }
+    ensures goes { Goes (eyes_of L.Link) now lane.old lane.new }
+    ensures attends { OverOrMarked now lane.old.fixed.window result (viewed
+        (eyes_of L.Link) lane.new) (Attends L.tells lane.old.fixed.window ready (viewed
+        (eyes_of L.Link) lane.old) (viewed (eyes_of L.Link) lane.new)) }
     ensures spills { P.faults spills.new ≡ P.faults spills.old }
 {
     match hear(lane, ready, now, recv_room, spills) {
@@ -171,8 +175,10 @@ fn pass<'a, L: Link + Drop, A: App<S>, S: Spill + Send + Drop>(
 ) -> Mark
     requires room { length room.old ≡ 65536 }
     requires up { IsUp lane.old.shown }
-    ensures goes { Goes (eyes L.tells L.state L.faults L.key L.plan) now lane.old lane.new }
-    ensures passes { OverOrMarked now lane.old.fixed.window result (viewed (eyes L.tells L.state L.faults L.key L.plan) lane.new) (Passes L.tells now lane.old.fixed.window (viewed (eyes L.tells L.state L.faults L.key L.plan) lane.old) (viewed (eyes L.tells L.state L.faults L.key L.plan) lane.new)) }
+    ensures goes { Goes (eyes_of L.Link) now lane.old lane.new }
+    ensures passes { OverOrMarked now lane.old.fixed.window result (viewed
+        (eyes_of L.Link) lane.new) (Passes L.tells now lane.old.fixed.window (viewed
+        (eyes_of L.Link) lane.old) (viewed (eyes_of L.Link) lane.new)) }
 {
     match lane.check_idle(now, room) {
         Acted::Over(end) => Mark::Over(end),
@@ -194,11 +200,14 @@ impl<'a, L: Link + Drop, A: App<S>, S: Spill + Send + Drop> Seat<'a, L, A, S> {
     )
         requires recv_room { length recv_room.old ≡ self.old.lane.fixed.window.recv_bytes }
         requires send_room { length send_room.old ≡ 65536 }
-        requires holds { SeatHolds self.old.lane.fixed.window self.old.want self.old.mark (viewed (eyes L.tells L.state L.faults L.key L.plan) self.old.lane) }
+        requires holds { SeatHolds self.old.lane.fixed.window self.old.want self.old.mark (viewed
+            (eyes_of L.Link) self.old.lane) }
         requires asks { asked_of ready ≡ asked_of self.old.want }
-        ensures goes { Goes (eyes L.tells L.state L.faults L.key L.plan) now self.old.lane self.new.lane }
-        ensures attends { OverOrHolds now self.old.lane.fixed.window self.new.want self.new.mark (viewed (eyes L.tells L.state L.faults L.key L.plan) self.new.lane)
-            (Attends L.tells self.old.lane.fixed.window ready (viewed (eyes L.tells L.state L.faults L.key L.plan) self.old.lane) (viewed (eyes L.tells L.state L.faults L.key L.plan) self.new.lane)) }
+        ensures goes { Goes (eyes_of L.Link) now self.old.lane self.new.lane }
+        ensures attends { OverOrHolds now self.old.lane.fixed.window self.new.want self.new.mark
+            (viewed (eyes_of L.Link) self.new.lane)
+            (Attends L.tells self.old.lane.fixed.window ready (viewed
+            (eyes_of L.Link) self.old.lane) (viewed (eyes_of L.Link) self.new.lane)) }
         ensures spills { P.faults spills.new ≡ P.faults spills.old }
     {
         if !is_called(ready, self.mark) {
@@ -212,9 +221,11 @@ impl<'a, L: Link + Drop, A: App<S>, S: Spill + Send + Drop> Seat<'a, L, A, S> {
     pub(crate) fn check(&mut self, now: u64, room: &mut [u8])
         requires room { length room.old ≡ 65536 }
         requires up { IsUp self.old.lane.shown }
-        ensures goes { Goes (eyes L.tells L.state L.faults L.key L.plan) now self.old.lane self.new.lane }
-        ensures passes { OverOrHolds now self.old.lane.fixed.window self.new.want self.new.mark (viewed (eyes L.tells L.state L.faults L.key L.plan) self.new.lane)
-            (Passes L.tells now self.old.lane.fixed.window (viewed (eyes L.tells L.state L.faults L.key L.plan) self.old.lane) (viewed (eyes L.tells L.state L.faults L.key L.plan) self.new.lane)) }
+        ensures goes { Goes (eyes_of L.Link) now self.old.lane self.new.lane }
+        ensures passes { OverOrHolds now self.old.lane.fixed.window self.new.want self.new.mark
+            (viewed (eyes_of L.Link) self.new.lane)
+            (Passes L.tells now self.old.lane.fixed.window (viewed (eyes_of L.Link) self.old.lane)
+            (viewed (eyes_of L.Link) self.new.lane)) }
     {
         self.mark = pass(&mut self.lane, now, room);
         self.want = self.lane.want();

@@ -1,6 +1,6 @@
 //! The server.
-ghost use Rattle.std.specs.Prelude.{◌≡◌, ◌<◌, [], All, IfOk, None, length};
-ghost use Rattle.poll_loop.specs.Seat.{eyes};
+ghost use Rattle.std.specs.Prelude.{◌≡◌, ◌<◌, [], All, IfOk, None};
+ghost use Rattle.poll_loop.specs.Seat.{eyes_of};
 ghost use Rattle.poll_loop.specs.Server.{Stands, serving};
 ghost use Rattle.poll_loop.specs.Settings.{AreUsable};
 
@@ -29,7 +29,7 @@ impl<'a, N: Net, A: App<P::Spill>, P: Spills> Server<'a, N, A, P> {
     /// A server without connections. It takes the buffers that are lent to each connection in turn.
     pub fn new(alloc: Global, app: &'a A, settings: &'a Settings) -> Result<Self, AllocError>
         requires usable { AreUsable settings.now }
-        ensures stands { IfOk result (λ server. Stands (eyes N.Link.tells N.Link.state N.Link.faults N.Link.key N.Link.plan) A.Run.faults server) }
+        ensures stands { IfOk result (λ server. Stands (eyes_of N.Link.Link) A.Run.faults server) }
         ensures begins { IfOk result (λ server. serving server ≡ record {
           app = app.now;
           settings = settings.now;
@@ -60,7 +60,7 @@ impl<'a, N: Net, A: App<P::Spill>, P: Spills> Server<'a, N, A, P> {
 
     /// The runs of the connections that ended by a fault of the application, one for each.
     pub fn failed(self) -> Vec<A::Run>
-        requires stands { Stands (eyes N.Link.tells N.Link.state N.Link.faults N.Link.key N.Link.plan) A.Run.faults self }
+        requires stands { Stands (eyes_of N.Link.Link) A.Run.faults self }
         ensures runs { result.items ≡ (serving self.entry).fallen }
         ensures broke { All (λ run. 0 < A.Run.faults run) result.items }
     {

@@ -1,12 +1,10 @@
 //! Turns, one after the other.
 ghost use Rattle.std.specs.Prelude.{◌≡◌, ◌≢◌, ◌≤◌, ◌⊎◌, [], IsTrue, Ok, false, length};
-ghost use Rattle.channel.specs.Views.{telling};
 ghost use Rattle.outside.specs.Causes.{raised};
 ghost use Rattle.poll_loop.specs.Accounts.{Accounts, LastKnows, ServeCause, ServeEnds, Served};
-ghost use Rattle.poll_loop.specs.Connections.{CameMore, HasBroken, going_on, service_by, shutting_down};
-ghost use Rattle.poll_loop.specs.Entries.{EntryHolds};
+ghost use Rattle.poll_loop.specs.Connections.{CameMore, holds_down, holds_on};
 ghost use Rattle.poll_loop.specs.NoIdle.{Hosts, NoIdle};
-ghost use Rattle.poll_loop.specs.Seat.{eyes};
+ghost use Rattle.poll_loop.specs.Seat.{eyes_of};
 ghost use Rattle.poll_loop.specs.Server.{Stands, booked, serving};
 ghost use Rattle.poll_loop.specs.declared.settings.Going.TheVariants as going;
 
@@ -22,33 +20,39 @@ impl<'a, N: Net, A: App<P::Spill>, P: Spills> Server<'a, N, A, P> {
     /// wrote, makes the idle check where it is due, and retires what is over. Where it doesn't answer
     /// `On`, everything that was open is retired.
     pub fn turn(&mut self, net: &mut N, spills: &mut P) -> Result<Going, ServeFault>
-        requires stands { Stands (eyes N.Link.tells N.Link.state N.Link.faults N.Link.key N.Link.plan) A.Run.faults self.old }
-        requires hosts { IsTrue N.tells → Hosts (eyes N.Link.tells N.Link.state N.Link.faults N.Link.key N.Link.plan) (N.state net.old) (serving self.old).open' }
+        requires stands { Stands (eyes_of N.Link.Link) A.Run.faults self.old }
+        requires hosts { IsTrue N.tells → Hosts (eyes_of N.Link.Link) (N.state net.old)
+            (serving self.old).open' }
         ensures no_idle { result ≡ Ok going.On → IsTrue N.tells → IsTrue N.Link.tells →
-            NoIdle (eyes N.Link.tells N.Link.state N.Link.faults N.Link.key N.Link.plan) (serving self.old) (serving self.new) (N.state net.old) (N.state net.new) }
+            NoIdle (eyes_of N.Link.Link) (serving self.old) (serving self.new) (N.state net.old)
+            (N.state net.new) }
         ensures goes_on { result ≡ Ok going.On → IsTrue N.tells → Accounts
-            (EntryHolds (service_by (telling N.Link.tells P.Spill.tells A.tells) A.script (serving self.old).settings (serving self.old).app)
-            (going_on (HasBroken A.Run.faults)) N.Link.state N.Link.faults)
+            (holds_on N.Link.Link P.Spill.Spill A.App A.Run.AppRun (serving self.old).settings
+            (serving self.old).app)
             N.Link.plan
-            (booked (eyes N.Link.tells N.Link.state N.Link.faults N.Link.key N.Link.plan) (N.state net.old) (P.faults spills.old) (serving self.old))
-            (booked (eyes N.Link.tells N.Link.state N.Link.faults N.Link.key N.Link.plan) (N.state net.new) (P.faults spills.new) (serving self.new)) }
+            (booked (eyes_of N.Link.Link) (N.state net.old) (P.faults spills.old) (serving self.old))
+            (booked (eyes_of N.Link.Link) (N.state net.new) (P.faults spills.new) (serving self.new)) }
         ensures knows { result ≡ Ok going.On → IsTrue N.tells → LastKnows (N.state net.new) }
         ensures still { IsTrue N.tells → LastKnows (N.state net.old) → LastKnows (N.state net.new) }
         ensures came_more { IsTrue N.tells → CameMore (serving self.old).settings.serve_limit
-            (serving self.old).accepted (serving self.new).accepted (length (N.state net.old).given) (length (N.state net.new).given) }
+            (serving self.old).accepted (serving self.new).accepted (length
+            (N.state net.old).given) (length (N.state net.new).given) }
         ensures unstopped { result ≡ Ok going.On → IsTrue N.tells → (N.state net.new).stopped ≡ false }
         ensures served { result ≢ Ok going.On → IsTrue N.tells → Served result
-            (EntryHolds (service_by (telling N.Link.tells P.Spill.tells A.tells) A.script (serving self.old).settings (serving self.old).app)
-            (going_on (HasBroken A.Run.faults)) N.Link.state N.Link.faults)
-            (EntryHolds (service_by (telling N.Link.tells P.Spill.tells A.tells) A.script (serving self.old).settings (serving self.old).app)
-            (shutting_down (HasBroken A.Run.faults)) N.Link.state N.Link.faults)
+            (holds_on N.Link.Link P.Spill.Spill A.App A.Run.AppRun (serving self.old).settings
+            (serving self.old).app)
+            (holds_down N.Link.Link P.Spill.Spill A.App A.Run.AppRun (serving self.old).settings
+            (serving self.old).app)
             N.Link.plan
-            (booked (eyes N.Link.tells N.Link.state N.Link.faults N.Link.key N.Link.plan) (N.state net.old) (P.faults spills.old) (serving self.old))
-            (booked (eyes N.Link.tells N.Link.state N.Link.faults N.Link.key N.Link.plan) (N.state net.new) (P.faults spills.new) (serving self.new)) }
+            (booked (eyes_of N.Link.Link) (N.state net.old) (P.faults spills.old) (serving self.old))
+            (booked (eyes_of N.Link.Link) (N.state net.new) (P.faults spills.new) (serving self.new)) }
         ensures shut { result ≢ Ok going.On → (serving self.new).open' ≡ [] }
-        ensures polls { IsTrue N.tells → ((N.state net.new).polls ≡ (N.state net.old).polls) ⊎ ((N.state net.new).polls ≡ raised (N.state net.old).polls) }
-        ensures hosts { result ≡ Ok going.On → IsTrue N.tells → Hosts (eyes N.Link.tells N.Link.state N.Link.faults N.Link.key N.Link.plan) (N.state net.new) (serving self.new).open' }
-        ensures ends { IsTrue N.tells → ServeEnds result (serving self.old).settings.serve_limit (serving self.old).accepted
+        ensures polls { IsTrue N.tells → ((N.state net.new).polls ≡ (N.state net.old).polls) ⊎
+            ((N.state net.new).polls ≡ raised (N.state net.old).polls) }
+        ensures hosts { result ≡ Ok going.On → IsTrue N.tells → Hosts (eyes_of N.Link.Link)
+            (N.state net.new) (serving self.new).open' }
+        ensures ends { IsTrue N.tells → ServeEnds result (serving self.old).settings.serve_limit
+            (serving self.old).accepted
             (N.state net.old) (N.state net.new) }
         ensures cause { ServeCause result (N.poll_faults net.old) (N.poll_faults net.new) }
         ensures settings { (serving self.new).settings ≡ (serving self.old).settings }
@@ -56,7 +60,7 @@ impl<'a, N: Net, A: App<P::Spill>, P: Spills> Server<'a, N, A, P> {
         ensures bind { N.bind_faults net.new ≡ N.bind_faults net.old }
         ensures plan { N.plan net.new ≡ N.plan net.old }
         ensures spills { P.faults spills.old ≤ P.faults spills.new }
-        ensures stands { Stands (eyes N.Link.tells N.Link.state N.Link.faults N.Link.key N.Link.plan) A.Run.faults self.new }
+        ensures stands { Stands (eyes_of N.Link.Link) A.Run.faults self.new }
     {
         match self.step(net, spills) {
             None => Ok(Going::On),
@@ -74,21 +78,24 @@ impl<'a, N: Net, A: App<P::Spill>, P: Spills> Server<'a, N, A, P> {
         net: &mut N,
         spills: &mut P,
     ) -> Result<Going, ServeFault>
-        requires stands { Stands (eyes N.Link.tells N.Link.state N.Link.faults N.Link.key N.Link.plan) A.Run.faults self.old }
-        requires hosts { IsTrue N.tells → Hosts (eyes N.Link.tells N.Link.state N.Link.faults N.Link.key N.Link.plan) (N.state net.old) (serving self.old).open' }
+        requires stands { Stands (eyes_of N.Link.Link) A.Run.faults self.old }
+        requires hosts { IsTrue N.tells → Hosts (eyes_of N.Link.Link) (N.state net.old)
+            (serving self.old).open' }
         ensures ended { result ≢ Ok going.On }
         ensures served { IsTrue N.tells → Served result
-            (EntryHolds (service_by (telling N.Link.tells P.Spill.tells A.tells) A.script (serving self.old).settings (serving self.old).app)
-            (going_on (HasBroken A.Run.faults)) N.Link.state N.Link.faults)
-            (EntryHolds (service_by (telling N.Link.tells P.Spill.tells A.tells) A.script (serving self.old).settings (serving self.old).app)
-            (shutting_down (HasBroken A.Run.faults)) N.Link.state N.Link.faults)
+            (holds_on N.Link.Link P.Spill.Spill A.App A.Run.AppRun (serving self.old).settings
+            (serving self.old).app)
+            (holds_down N.Link.Link P.Spill.Spill A.App A.Run.AppRun (serving self.old).settings
+            (serving self.old).app)
             N.Link.plan
-            (booked (eyes N.Link.tells N.Link.state N.Link.faults N.Link.key N.Link.plan) (N.state net.old) (P.faults spills.old) (serving self.old))
-            (booked (eyes N.Link.tells N.Link.state N.Link.faults N.Link.key N.Link.plan) (N.state net.new) (P.faults spills.new) (serving self.new)) }
+            (booked (eyes_of N.Link.Link) (N.state net.old) (P.faults spills.old) (serving self.old))
+            (booked (eyes_of N.Link.Link) (N.state net.new) (P.faults spills.new) (serving self.new)) }
         ensures came_more { IsTrue N.tells → CameMore (serving self.old).settings.serve_limit
-            (serving self.old).accepted (serving self.new).accepted (length (N.state net.old).given) (length (N.state net.new).given) }
+            (serving self.old).accepted (serving self.new).accepted (length
+            (N.state net.old).given) (length (N.state net.new).given) }
         ensures shut { (serving self.new).open' ≡ [] }
-        ensures ends { IsTrue N.tells → ServeEnds result (serving self.old).settings.serve_limit (serving self.old).accepted
+        ensures ends { IsTrue N.tells → ServeEnds result (serving self.old).settings.serve_limit
+            (serving self.old).accepted
             (N.state net.old) (N.state net.new) }
         ensures cause { ServeCause result (N.poll_faults net.old) (N.poll_faults net.new) }
         ensures settings { (serving self.new).settings ≡ (serving self.old).settings }
@@ -96,7 +103,7 @@ impl<'a, N: Net, A: App<P::Spill>, P: Spills> Server<'a, N, A, P> {
         ensures bind { N.bind_faults net.new ≡ N.bind_faults net.old }
         ensures plan { N.plan net.new ≡ N.plan net.old }
         ensures spills { P.faults spills.old ≤ P.faults spills.new }
-        ensures stands { Stands (eyes N.Link.tells N.Link.state N.Link.faults N.Link.key N.Link.plan) A.Run.faults self.new }
+        ensures stands { Stands (eyes_of N.Link.Link) A.Run.faults self.new }
     {
         for _ in rt.forever() {
             match self.turn(net, spills) {

@@ -1,13 +1,11 @@
 //! One turn.
 ghost use Rattle.std.specs.Prelude.{◌≡◌, ◌≤◌, ◌+◌, ◌⊎◌, false, IsTrue, OnOk, None, length, nat_le, take};
-ghost use Rattle.channel.specs.Views.{telling};
 ghost use Rattle.outside.specs.Causes.{raised};
 ghost use Rattle.poll_loop.specs.Accounts.{Accounts, LastKnows};
-ghost use Rattle.poll_loop.specs.Connections.{Gathers, HasBroken, IsAsked, IsNow, OnlyRetires, SamePolls, going_on, service_by, works};
-ghost use Rattle.poll_loop.specs.Entries.{EntryHolds};
+ghost use Rattle.poll_loop.specs.Connections.{Gathers, IsAsked, IsNow, OnlyRetires, SamePolls, holds_on, works};
 ghost use Rattle.poll_loop.specs.Lists.{Paired};
 ghost use Rattle.poll_loop.specs.NoIdle.{Hosts, NoIdle, checked_by, is_accepting};
-ghost use Rattle.poll_loop.specs.Seat.{SeatAsks, eyes};
+ghost use Rattle.poll_loop.specs.Seat.{SeatAsks, eyes_of};
 ghost use Rattle.poll_loop.specs.Server.{Carries, IsSameServer, Stands, StepCause, Steps, WorksOff, answer_of, booked, serving};
 
 use crate::accepting::{Opening, accept_if, accepts, below};
@@ -20,7 +18,7 @@ use outside::{Link, Net, Spill, Spills, Turn, Want};
 use std::alloc::AllocError;
 use wsgi::App;
 
-// It tells a poll that work is waiting which needs no bytes.
+// It tells a poll that work is waiting which needs no bytes. It asks nothing of a link, so its key is nobody's.
 const NUDGE: Want = Want {
     key: 0,
     read: false,
@@ -101,24 +99,28 @@ impl<'a, N: Net, A: App<P::Spill>, P: Spills> Server<'a, N, A, P> {
     // Reads, makes steps, sends, makes the idle check where it is due, and retires what is over. The poll
     // was asked for the first so many connections.
     fn work(&mut self, asked: usize, now: u64, net: &mut N, spills: &mut P)
-        requires stands { Stands (eyes N.Link.tells N.Link.state N.Link.faults N.Link.key N.Link.plan) A.Run.faults self.old }
-        requires asks { Paired (SeatAsks (eyes N.Link.tells N.Link.state N.Link.faults N.Link.key N.Link.plan) self.old.settings.now.window) (take asked self.old.wants.items) self.old.connections.seats.items }
+        requires stands { Stands (eyes_of N.Link.Link) A.Run.faults self.old }
+        requires asks { Paired (SeatAsks (eyes_of N.Link.Link) self.old.settings.now.window)
+            (take asked self.old.wants.items) self.old.connections.seats.items }
         requires all { asked ≤ length self.old.wants.items }
-        requires hosts { IsTrue N.tells → Hosts (eyes N.Link.tells N.Link.state N.Link.faults N.Link.key N.Link.plan) (N.state net.old) (serving self.old).open' }
+        requires hosts { IsTrue N.tells → Hosts (eyes_of N.Link.Link) (N.state net.old)
+            (serving self.old).open' }
         requires now { IsTrue N.tells → IsNow (N.state net.old) now }
-        ensures works_off { WorksOff (eyes N.Link.tells N.Link.state N.Link.faults N.Link.key N.Link.plan) now (take asked self.old.wants.items) self.old self.new }
+        ensures works_off { WorksOff (eyes_of N.Link.Link) now
+            (take asked self.old.wants.items) self.old self.new }
         ensures accounts { IsTrue N.tells → Accounts
-            (EntryHolds (service_by (telling N.Link.tells P.Spill.tells A.tells) A.script self.old.settings.now self.old.app.now)
-            (going_on (HasBroken A.Run.faults)) N.Link.state N.Link.faults)
+            (holds_on N.Link.Link P.Spill.Spill A.App A.Run.AppRun self.old.settings.now
+            self.old.app.now)
             N.Link.plan
-            (booked (eyes N.Link.tells N.Link.state N.Link.faults N.Link.key N.Link.plan) (N.state net.old) (P.faults spills.old) (serving self.old))
-            (booked (eyes N.Link.tells N.Link.state N.Link.faults N.Link.key N.Link.plan) (N.state net.new) (P.faults spills.new) (serving self.new)) }
+            (booked (eyes_of N.Link.Link) (N.state net.old) (P.faults spills.old) (serving self.old))
+            (booked (eyes_of N.Link.Link) (N.state net.new) (P.faults spills.new) (serving self.new)) }
         ensures net { IsTrue N.tells → OnlyRetires (N.state net.old) (N.state net.new) }
         ensures accepted { self.new.connections.accepted ≡ self.old.connections.accepted }
         ensures polls { N.poll_faults net.new ≡ N.poll_faults net.old }
         ensures same { IsSameServer self.old self.new }
-        ensures stands { Stands (eyes N.Link.tells N.Link.state N.Link.faults N.Link.key N.Link.plan) A.Run.faults self.new }
-        ensures hosts { IsTrue N.tells → Hosts (eyes N.Link.tells N.Link.state N.Link.faults N.Link.key N.Link.plan) (N.state net.new) (serving self.new).open' }
+        ensures stands { Stands (eyes_of N.Link.Link) A.Run.faults self.new }
+        ensures hosts { IsTrue N.tells → Hosts (eyes_of N.Link.Link) (N.state net.new)
+            (serving self.new).open' }
         ensures bind { N.bind_faults net.new ≡ N.bind_faults net.old }
         ensures plan { N.plan net.new ≡ N.plan net.old }
         ensures spills { P.faults spills.old ≤ P.faults spills.new }
@@ -150,26 +152,29 @@ impl<'a, N: Net, A: App<P::Spill>, P: Spills> Server<'a, N, A, P> {
 
     // A turn behind its poll.
     fn carry(&mut self, asked: usize, turn: Turn, net: &mut N, spills: &mut P) -> Option<Why>
-        requires stands { Stands (eyes N.Link.tells N.Link.state N.Link.faults N.Link.key N.Link.plan) A.Run.faults self.old }
+        requires stands { Stands (eyes_of N.Link.Link) A.Run.faults self.old }
         requires asks { IsAsked self.old.connections.seats.items asked self.old.wants.items }
-        requires hosts { IsTrue N.tells → Hosts (eyes N.Link.tells N.Link.state N.Link.faults N.Link.key N.Link.plan) (N.state net.old) (serving self.old).open' }
+        requires hosts { IsTrue N.tells → Hosts (eyes_of N.Link.Link) (N.state net.old)
+            (serving self.old).open' }
         requires now { IsTrue N.tells → IsNow (N.state net.old) turn.now }
         requires unstopped { IsTrue N.tells → (N.state net.old).stopped ≡ false }
         requires knows { IsTrue N.tells → LastKnows (N.state net.old) }
         requires room { IsTrue turn.come → IsTrue (is_accepting (serving self.old)) }
         ensures carries { result ≡ None → IsTrue N.tells → IsTrue N.Link.tells →
-            Carries (eyes N.Link.tells N.Link.state N.Link.faults N.Link.key N.Link.plan) (take asked self.old.wants.items) turn (serving self.old) (serving self.new) (N.state net.old) (N.state net.new) }
+            Carries (eyes_of N.Link.Link) (take asked self.old.wants.items) turn
+            (serving self.old) (serving self.new) (N.state net.old) (N.state net.new) }
         ensures steps { IsTrue N.tells → Steps result
-            (EntryHolds (service_by (telling N.Link.tells P.Spill.tells A.tells) A.script self.old.settings.now self.old.app.now)
-            (going_on (HasBroken A.Run.faults)) N.Link.state N.Link.faults)
+            (holds_on N.Link.Link P.Spill.Spill A.App A.Run.AppRun self.old.settings.now
+            self.old.app.now)
             N.Link.plan self.old.settings.now.serve_limit self.old.connections.accepted self.new.connections.accepted
-            (booked (eyes N.Link.tells N.Link.state N.Link.faults N.Link.key N.Link.plan) (N.state net.old) (P.faults spills.old) (serving self.old))
-            (booked (eyes N.Link.tells N.Link.state N.Link.faults N.Link.key N.Link.plan) (N.state net.new) (P.faults spills.new) (serving self.new)) }
+            (booked (eyes_of N.Link.Link) (N.state net.old) (P.faults spills.old) (serving self.old))
+            (booked (eyes_of N.Link.Link) (N.state net.new) (P.faults spills.new) (serving self.new)) }
         ensures same_polls { IsTrue N.tells → SamePolls (N.state net.old) (N.state net.new) }
         ensures cause { StepCause result (N.poll_faults net.old) (N.poll_faults net.new) }
         ensures same { IsSameServer self.old self.new }
-        ensures stands { Stands (eyes N.Link.tells N.Link.state N.Link.faults N.Link.key N.Link.plan) A.Run.faults self.new }
-        ensures hosts { IsTrue N.tells → Hosts (eyes N.Link.tells N.Link.state N.Link.faults N.Link.key N.Link.plan) (N.state net.new) (serving self.new).open' }
+        ensures stands { Stands (eyes_of N.Link.Link) A.Run.faults self.new }
+        ensures hosts { IsTrue N.tells → Hosts (eyes_of N.Link.Link) (N.state net.new)
+            (serving self.new).open' }
         ensures bind { N.bind_faults net.new ≡ N.bind_faults net.old }
         ensures plan { N.plan net.new ≡ N.plan net.old }
         ensures spills { P.faults spills.old ≤ P.faults spills.new }
@@ -194,21 +199,25 @@ impl<'a, N: Net, A: App<P::Spill>, P: Spills> Server<'a, N, A, P> {
 
     // A turn, but for what is shut down where serving ends with it.
     pub(crate) fn step(&mut self, net: &mut N, spills: &mut P) -> Option<Why>
-        requires stands { Stands (eyes N.Link.tells N.Link.state N.Link.faults N.Link.key N.Link.plan) A.Run.faults self.old }
-        requires hosts { IsTrue N.tells → Hosts (eyes N.Link.tells N.Link.state N.Link.faults N.Link.key N.Link.plan) (N.state net.old) (serving self.old).open' }
+        requires stands { Stands (eyes_of N.Link.Link) A.Run.faults self.old }
+        requires hosts { IsTrue N.tells → Hosts (eyes_of N.Link.Link) (N.state net.old)
+            (serving self.old).open' }
         ensures no_idle { result ≡ None → IsTrue N.tells → IsTrue N.Link.tells →
-            NoIdle (eyes N.Link.tells N.Link.state N.Link.faults N.Link.key N.Link.plan) (serving self.old) (serving self.new) (N.state net.old) (N.state net.new) }
+            NoIdle (eyes_of N.Link.Link) (serving self.old) (serving self.new) (N.state net.old)
+            (N.state net.new) }
         ensures steps { IsTrue N.tells → Steps result
-            (EntryHolds (service_by (telling N.Link.tells P.Spill.tells A.tells) A.script self.old.settings.now self.old.app.now)
-            (going_on (HasBroken A.Run.faults)) N.Link.state N.Link.faults)
+            (holds_on N.Link.Link P.Spill.Spill A.App A.Run.AppRun self.old.settings.now
+            self.old.app.now)
             N.Link.plan self.old.settings.now.serve_limit self.old.connections.accepted self.new.connections.accepted
-            (booked (eyes N.Link.tells N.Link.state N.Link.faults N.Link.key N.Link.plan) (N.state net.old) (P.faults spills.old) (serving self.old))
-            (booked (eyes N.Link.tells N.Link.state N.Link.faults N.Link.key N.Link.plan) (N.state net.new) (P.faults spills.new) (serving self.new)) }
-        ensures polls { IsTrue N.tells → ((N.state net.new).polls ≡ (N.state net.old).polls) ⊎ ((N.state net.new).polls ≡ raised (N.state net.old).polls) }
+            (booked (eyes_of N.Link.Link) (N.state net.old) (P.faults spills.old) (serving self.old))
+            (booked (eyes_of N.Link.Link) (N.state net.new) (P.faults spills.new) (serving self.new)) }
+        ensures polls { IsTrue N.tells → ((N.state net.new).polls ≡ (N.state net.old).polls) ⊎
+            ((N.state net.new).polls ≡ raised (N.state net.old).polls) }
         ensures cause { StepCause result (N.poll_faults net.old) (N.poll_faults net.new) }
         ensures same { IsSameServer self.old self.new }
-        ensures stands { Stands (eyes N.Link.tells N.Link.state N.Link.faults N.Link.key N.Link.plan) A.Run.faults self.new }
-        ensures hosts { IsTrue N.tells → Hosts (eyes N.Link.tells N.Link.state N.Link.faults N.Link.key N.Link.plan) (N.state net.new) (serving self.new).open' }
+        ensures stands { Stands (eyes_of N.Link.Link) A.Run.faults self.new }
+        ensures hosts { IsTrue N.tells → Hosts (eyes_of N.Link.Link) (N.state net.new)
+            (serving self.new).open' }
         ensures bind { N.bind_faults net.new ≡ N.bind_faults net.old }
         ensures plan { N.plan net.new ≡ N.plan net.old }
         ensures spills { P.faults spills.old ≤ P.faults spills.new }

@@ -1,5 +1,5 @@
 //! What is printed to `out`.
-ghost use Rattle.std.specs.Prelude.{◌≡◌, ◌≢◌, ◌++◌, ◌⊎◌, IfOk, IsTrue, OnOk, Ok as ok};
+ghost use Rattle.std.specs.Prelude.{◌≡◌, ◌++◌, ◌⊎◌, IfOk, IsTrue, OnOk, Ok as ok};
 ghost use Rattle.outside.specs.Causes.{Rose};
 ghost use Rattle.waitress_serve.specs.Status.{WritesPart, printed, prints, serving_line, serving_lines};
 

@@ -3,7 +3,7 @@ ghost use Rattle.std.specs.Prelude.{◌≡◌, ◌≤◌, IsTrue};
 ghost use Rattle.channel.specs.Views.{telling};
 ghost use Rattle.poll_loop.specs.Accounts.{ServeCause, ServeEnds};
 ghost use Rattle.poll_loop.specs.Connections.{HasBroken, service_by};
-ghost use Rattle.poll_loop.specs.Seat.{eyes};
+ghost use Rattle.poll_loop.specs.Seat.{eyes_of};
 ghost use Rattle.poll_loop.specs.Settings.{AreUsable};
 ghost use Rattle.waitress_serve.specs.Conclusions.{ServedAll, conclusion_of};
 ghost use Rattle.waitress_serve.specs.Headline.{KeepsLimit};
@@ -28,7 +28,7 @@ pub(crate) fn serve<W: Wait, N: Net, P: Spills, A: App<P::Spill>>(
     ensures served { IsTrue N.tells → ServedAll result
         (service_by (telling N.Link.tells P.Spill.tells A.tells) A.script settings.now app.now)
         (HasBroken A.Run.faults)
-        (eyes N.Link.tells N.Link.state N.Link.faults N.Link.key N.Link.plan)
+        (eyes_of N.Link.Link)
         (P.faults spills.old) (P.faults spills.new) (N.state net.old) (N.state net.new) }
     ensures ends { IsTrue N.tells → ServeEnds result settings.now.serve_limit 0 (N.state net.old) (N.state net.new) }
     ensures limited { IsTrue N.tells → KeepsLimit settings.now.serve_limit (N.state net.old) (N.state net.new) }

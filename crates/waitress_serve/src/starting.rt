@@ -6,7 +6,7 @@ ghost use Rattle.adjust.specs.Ranges.{IsInRange, KeepsRanges};
 ghost use Rattle.channel.specs.Views.{telling};
 ghost use Rattle.poll_loop.specs.Connections.{HasBroken};
 ghost use Rattle.poll_loop.specs.Entries.{EntryHolds};
-ghost use Rattle.poll_loop.specs.Seat.{eyes};
+ghost use Rattle.poll_loop.specs.Seat.{eyes_of};
 ghost use Rattle.waitress_serve.specs.Completeness.{IsAnswered, IsBrief, IsStill};
 ghost use Rattle.waitress_serve.specs.Conclusions.{BindCount, Concludes, DoneAdds, DoneStops, FailsUnstopped, IsDownBy, IsOfPrinting, IsOfServing, NetLeaves, OutCount, OutLeaves, PollCount, Ran};
 ghost use Rattle.waitress_serve.specs.Headline.{Added, KeepsLimit, RetiresGiven, SettlesSpills, ShutLast, grounds};
@@ -41,7 +41,7 @@ fn start<W: Wait, N: Net, P: Spills, C: Sink, A: App<P::Spill> + Drop>(
     ensures ran { IsTrue N.tells → Ran
         (service_with (telling N.Link.tells P.Spill.tells A.tells) options (A.script app))
         (HasBroken A.Run.faults)
-        (eyes N.Link.tells N.Link.state N.Link.faults N.Link.key N.Link.plan)
+        (eyes_of N.Link.Link)
         (addresses_of options) result (P.faults spills.old) (P.faults spills.new)
         (N.state net.old) (N.state net.new) }
     ensures stops { IsTrue N.tells →
@@ -104,7 +104,7 @@ fn carry_out<W: Wait, N: Net, P: Spills, C: Sink>(
     ensures idle_net { IsTrue N.tells → serves (ok command) ≡ false → N.state net.new ≡ N.state net.old }
     ensures ran { IsTrue N.tells → Ran
         (service_for (telling N.Link.tells P.Spill.tells P.Spill.tells) (ok command)) ⊥
-        (eyes N.Link.tells N.Link.state N.Link.faults N.Link.key N.Link.plan)
+        (eyes_of N.Link.Link)
         (listen_by (ok command)) result (P.faults spills.old) (P.faults spills.new)
         (N.state net.old) (N.state net.new) }
     ensures stops { IsTrue N.tells → IsTrue (serves (ok command)) →

@@ -4,7 +4,7 @@ use Rattle.outside.specs.Link.{opened}
 use Rattle.outside.specs.Causes.{raised}
 use Rattle.outside.specs.Net.{Accepts, GivesLink}
 use Rattle.poll_loop.specs.Connections.{seated}
-use Rattle.poll_loop.specs.Seat.{eyes}
+use Rattle.poll_loop.specs.Seat.{eyes_of}
 use Rattle.poll_loop.proofs.Books.{time_same, within_later}
 use Rattle.poll_loop.proofs.Coming.{accounts_asked, accounts_refused, accounts_seated, entry_refused, seated_one, telling_link}
 use Rattle.poll_loop.proofs.accepting.accept_one.Goals as goal
@@ -30,7 +30,7 @@ returns-in-Ok-clause-accounts g c told =
     let opening = c.args.opening.now in
     let link = c.in-Ok-Some.link in
     let peer = c.in-Ok-Some.peer in
-    let e = eyes g.N.Link.Link.tells g.N.Link.Link.state g.N.Link.Link.faults g.N.Link.Link.key g.N.Link.Link.plan in
+    let e = eyes_of g.N.Link.Link in
     accounts_seated _ g.N.Link.Link.plan (g.N.Net.state c.args.net.now) _ _ _ _ _ _ c.in-Ok.ensures.spills (ap length c.in-Ok.ensures.fallen) peer (g.N.Link.Link.plan link) (g.N.Net.state c.accept.new.self)
     (subst (λ o. Accepts g.N.Link.Link.plan (Ok o) (g.N.Net.state c.args.net.now) (g.N.Net.state c.accept.new.self)) c.in-Ok-Some.field-0-is (c.in-Ok-Some.ensures.told told))
     (seated_one e opening.settings.now opening.app.now opening.moment link peer c.args.connections.now.seats.items c.seat_link.new.connections.seats.items c.in-Ok.ensures.seated)
@@ -58,4 +58,4 @@ returns-in-Err-clause-accounts g c told =
     accounts_refused _ plan old _ _ _ _ _ _ c.in-Err.ensures.spills (ap length c.in-Err.ensures.fallen) mid new peer link given'' r
     (entry_refused _ _ g.N.Link.Link.state g.N.Link.Link.faults new opening.moment peer link (telling_link g.N.Link.Link.tells g.P.Spill.Spill.tells g.A.App.tells) opened_at
     (within_later old new opening.moment time (c.requires.within told)))
-    (ap (seated (eyes g.N.Link.Link.tells g.N.Link.Link.state g.N.Link.Link.faults g.N.Link.Link.key plan)) c.in-Err.ensures.kept)
+    (ap (seated (eyes_of g.N.Link.Link)) c.in-Err.ensures.kept)

@@ -3,7 +3,7 @@ use Rattle.std.specs.List.{length_refill}
 use Rattle.outside.specs.declared.types.Want.{Want}
 use Rattle.channel.specs.declared.types.Window.{Window}
 use Rattle.poll_loop.specs.Lists.{Paired, UpTo}
-use Rattle.poll_loop.specs.Seat.{Eyes, SeatAsks, SeatHolds, SeatTurns, eyes, viewed}
+use Rattle.poll_loop.specs.Seat.{Eyes, SeatAsks, SeatHolds, SeatTurns, eyes_of, viewed}
 use Rattle.poll_loop.specs.declared.seat.Seat.{Seat}
 use Rattle.poll_loop.proofs.Leaving.{turned}
 use Rattle.poll_loop.proofs.UpTo.{paired_at, paired_length, up_to_all, up_to_length, up_to_at, up_to_more}
@@ -21,14 +21,14 @@ still_asks e now w i wants olds news d p h u =
 
 pub attend-requires-clause-recv_room : goal.attend-requires-clause-recv_room
 attend-requires-clause-recv_room g c κs within =
-    let e : Eyes g.row.L.Denot g.row.L-Plan.Denot = eyes g.L.Link.tells g.L.Link.state g.L.Link.faults g.L.Link.key g.L.Link.plan in
+    let e : Eyes g.row.L.Denot g.row.L-Plan.Denot = eyes_of g.L.Link in
     let asks = still_asks e c.args.round.now c.args.round.window c.loop-i.i c.args.wants.now c.args.seats.now c.loop-i.seats c.index-seats-i.result
     c.requires.asks c.if-i-wants.false c.loop-i.invariant.turns in
     ap length c.as_mut_slice.ensures.value ∙ c.loop-i.invariant.rooms ∙ c.requires.recv ∙ sym (ap (λ w. w.recv_bytes) asks.rests.window)
 
 pub attend-requires-clause-holds : goal.attend-requires-clause-holds
 attend-requires-clause-holds g c κs within =
-    let e : Eyes g.row.L.Denot g.row.L-Plan.Denot = eyes g.L.Link.tells g.L.Link.state g.L.Link.faults g.L.Link.key g.L.Link.plan in
+    let e : Eyes g.row.L.Denot g.row.L-Plan.Denot = eyes_of g.L.Link in
     let asks = still_asks e c.args.round.now c.args.round.window c.loop-i.i c.args.wants.now c.args.seats.now c.loop-i.seats c.index-seats-i.result
     c.requires.asks c.if-i-wants.false c.loop-i.invariant.turns in
     let seat : Seat g.row.L.Denot g.row.A.Denot g.row.S.Denot g.row.L-Plan.Denot g.row.A-Run.Denot = slice_index_or c.loop-i.seats c.loop-i.i c.index-seats-i.result in
@@ -36,14 +36,14 @@ attend-requires-clause-holds g c κs within =
 
 pub attend-requires-clause-asks : goal.attend-requires-clause-asks
 attend-requires-clause-asks g c κs within =
-    let e : Eyes g.row.L.Denot g.row.L-Plan.Denot = eyes g.L.Link.tells g.L.Link.state g.L.Link.faults g.L.Link.key g.L.Link.plan in
+    let e : Eyes g.row.L.Denot g.row.L-Plan.Denot = eyes_of g.L.Link in
     let asks = still_asks e c.args.round.now c.args.round.window c.loop-i.i c.args.wants.now c.args.seats.now c.loop-i.seats c.index-seats-i.result
     c.requires.asks c.if-i-wants.false c.loop-i.invariant.turns in
     asks.asks
 
 pub loop-i-preserved : goal.loop-i-preserved
 loop-i-preserved g c =
-    let e : Eyes g.row.L.Denot g.row.L-Plan.Denot = eyes g.L.Link.tells g.L.Link.state g.L.Link.faults g.L.Link.key g.L.Link.plan in
+    let e : Eyes g.row.L.Denot g.row.L-Plan.Denot = eyes_of g.L.Link in
     let now = c.args.round.now in
     let w : Window = c.args.round.window in
     let i = c.loop-i.i in

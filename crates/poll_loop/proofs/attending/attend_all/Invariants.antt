@@ -1,6 +1,6 @@
 use Rattle.std.proofs.Common.{◌≡◌, ℕ, List, length}
 use Rattle.poll_loop.specs.Lists.{UpTo}
-use Rattle.poll_loop.specs.Seat.{SeatTurns, eyes}
+use Rattle.poll_loop.specs.Seat.{SeatTurns, eyes_of}
 use Rattle.poll_loop.proofs.attending.attend_all.Given as goal
 
 -- each seat before this one had its part, and the room and the spills are as they were
@@ -11,5 +11,5 @@ pub record AttendedTo {W X : Type 0} (R : W → X → X → Type 0) (i : ℕ) (w
 
 abbrev pub invariant-loop-i : goal.invariant-loop-i
 invariant-loop-i g l =
-    AttendedTo (SeatTurns (eyes g.L.Link.tells g.L.Link.state g.L.Link.faults g.L.Link.key g.L.Link.plan) l.round.now l.round.window) l.i
+    AttendedTo (SeatTurns (eyes_of g.L.Link) l.round.now l.round.window) l.i
     l.wants l.fn.seats l.seats l.fn.rooms.recv.items l.rooms.recv.items (g.P.Spills.faults l.fn.spills) (g.P.Spills.faults l.spills)

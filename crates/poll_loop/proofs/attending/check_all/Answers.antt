@@ -1,7 +1,7 @@
 use Rattle.std.proofs.Common.{◌≡◌, ◌<◌, ◌+◌, ℕ, List, length, ap, sym, subst, ◌∙◌, arith, add-one, slice_index_or, slice_set, false}
 use Rattle.channel.specs.declared.types.Window.{Window}
 use Rattle.poll_loop.specs.Lists.{EachIs, UpTo}
-use Rattle.poll_loop.specs.Seat.{Eyes, SeatChecks, SeatOut, eyes, is_open}
+use Rattle.poll_loop.specs.Seat.{Eyes, SeatChecks, SeatOut, eyes_of, is_open}
 use Rattle.poll_loop.specs.declared.seat.Seat.{Seat}
 use Rattle.poll_loop.proofs.Leaving.{checked, is_up, unchecked}
 use Rattle.poll_loop.proofs.UpTo.{both_of, each_at, same_at, up_to_at, up_to_keep, up_to_length, up_to_more}
@@ -33,7 +33,7 @@ check_none e now w i olds news d h u n =
 
 pub check-requires-clause-up : goal.check-requires-clause-up
 check-requires-clause-up g c κs within =
-    let e : Eyes g.row.L.Denot g.row.L-Plan.Denot = eyes g.L.Link.tells g.L.Link.state g.L.Link.faults g.L.Link.key g.L.Link.plan in
+    let e : Eyes g.row.L.Denot g.row.L-Plan.Denot = eyes_of g.L.Link in
     let d : Seat g.row.L.Denot g.row.A.Denot g.row.S.Denot g.row.L-Plan.Denot g.row.A-Run.Denot = c.index-seats-i-then-is_open.result in
     let many = up_to_length (λ _. SeatChecks e c.args.round.now c.args.round.window) c.loop-i.i c.args.seats.now c.args.seats.now c.loop-i.seats c.loop-i.invariant.checks in
     let same = same_at c.loop-i.i c.loop-i.seats c.index-seats-i.result d (subst (λ n. c.loop-i.i < n) (sym many) c.loop-i-test.true) in
@@ -43,7 +43,7 @@ check-requires-clause-up g c κs within =
 
 pub loop-i-preserved : goal.loop-i-preserved
 loop-i-preserved g c =
-    let e : Eyes g.row.L.Denot g.row.L-Plan.Denot = eyes g.L.Link.tells g.L.Link.state g.L.Link.faults g.L.Link.key g.L.Link.plan in
+    let e : Eyes g.row.L.Denot g.row.L-Plan.Denot = eyes_of g.L.Link in
     let now = c.args.round.now in
     let w : Window = c.args.round.window in
     let i = c.loop-i.i in
@@ -73,7 +73,7 @@ loop-i-preserved g c =
 
 pub returns-clause-checks : goal.returns-clause-checks
 returns-clause-checks g c =
-    let e : Eyes g.row.L.Denot g.row.L-Plan.Denot = eyes g.L.Link.tells g.L.Link.state g.L.Link.faults g.L.Link.key g.L.Link.plan in
+    let e : Eyes g.row.L.Denot g.row.L-Plan.Denot = eyes_of g.L.Link in
     let t = c.loop-i-test.false in
     let i = c.loop-i.auto.i-end in
     let end : c.loop-i.i ≡ length c.args.seats.now = omega (arith, t, i) in

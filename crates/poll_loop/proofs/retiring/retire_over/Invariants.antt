@@ -2,13 +2,13 @@ use Rattle.std.proofs.Common.{◌≡◌, ◌≤◌, ◌<◌, ◌+◌, ◌-◌, A
 use Rattle.channel.specs.Views.{telling}
 use Rattle.poll_loop.specs.Connections.{Counted, HasBroken, going_on, service_by}
 use Rattle.poll_loop.specs.Entries.{EntryHolds}
-use Rattle.poll_loop.specs.Seat.{eyes}
+use Rattle.poll_loop.specs.Seat.{eyes_of}
 use Rattle.poll_loop.proofs.Sifting.{Sifts}
 use Rattle.poll_loop.proofs.retiring.retire_over.Given as goal
 
 abbrev pub invariant-loop-i : goal.invariant-loop-i
 invariant-loop-i g l = record {
-  sifts : Sifts g.N.Net.tells (eyes g.N.Link.Link.tells g.N.Link.Link.state g.N.Link.Link.faults g.N.Link.Link.key g.N.Link.Link.plan)
+  sifts : Sifts g.N.Net.tells (eyes_of g.N.Link.Link)
       (EntryHolds (service_by (telling g.N.Link.Link.tells g.P.Spill.Spill.tells g.A.App.tells) g.A.App.script l.settings l.app)
       (going_on (HasBroken g.A.Run.AppRun.faults)) g.N.Link.Link.state g.N.Link.Link.faults)
       l.fn.connections.seats.items l.connections.seats.items l.i (g.N.Net.state l.fn.net) (g.N.Net.state l.net)

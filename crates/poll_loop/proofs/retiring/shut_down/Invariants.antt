@@ -2,13 +2,13 @@ use Rattle.std.proofs.Common.{◌≡◌, ◌≤◌, ◌+◌, length, vec_capacit
 use Rattle.channel.specs.Views.{telling}
 use Rattle.poll_loop.specs.Connections.{Counted, HasBroken, service_by, shutting_down}
 use Rattle.poll_loop.specs.Entries.{EntryHolds}
-use Rattle.poll_loop.specs.Seat.{eyes}
+use Rattle.poll_loop.specs.Seat.{eyes_of}
 use Rattle.poll_loop.proofs.Shutting.{Shuts}
 use Rattle.poll_loop.proofs.retiring.shut_down.Given as goal
 
 abbrev pub invariant-loop-connections : goal.invariant-loop-connections
 invariant-loop-connections g l = record {
-  shuts : Shuts g.N.Net.tells (eyes g.N.Link.Link.tells g.N.Link.Link.state g.N.Link.Link.faults g.N.Link.Link.key g.N.Link.Link.plan)
+  shuts : Shuts g.N.Net.tells (eyes_of g.N.Link.Link)
       (EntryHolds (service_by (telling g.N.Link.Link.tells g.P.Spill.Spill.tells g.A.App.tells) g.A.App.script l.settings l.app)
       (shutting_down (HasBroken g.A.Run.AppRun.faults)) g.N.Link.Link.state g.N.Link.Link.faults)
       l.fn.connections.seats.items l.connections.seats.items (g.N.Net.state l.fn.net) (g.N.Net.state l.net);

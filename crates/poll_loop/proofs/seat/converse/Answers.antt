@@ -1,7 +1,7 @@
 use Rattle.std.proofs.Common.{◌≡◌, ℕ, ap, subst, ◌∙◌}
 use Rattle.channel.specs.Views.{Seen, View}
 use Rattle.channel.specs.declared.types.Window.{Window}
-use Rattle.poll_loop.specs.Seat.{Eyes, Goes, Strides, eyes, viewed}
+use Rattle.poll_loop.specs.Seat.{Eyes, Goes, Strides, eyes_of, viewed}
 use Rattle.poll_loop.proofs.Compose.{go_on, goes_by_steps}
 use Rattle.poll_loop.proofs.Leaving.{attends_by, marked_by}
 use Rattle.poll_loop.proofs.seat.converse.Goals as goal
@@ -18,18 +18,18 @@ goes_through e now w a b c d first link peer fixed strides last =
 pub returns-in-Some-speak-clause-goes : goal.returns-in-Some-speak-clause-goes
 returns-in-Some-speak-clause-goes g c =
     let s = c.stride.ensures in
-    goes_through (eyes g.L.Link.tells g.L.Link.state g.L.Link.faults g.L.Link.key g.L.Link.plan) c.args.now c.hear.new.lane.fixed.window
+    goes_through (eyes_of g.L.Link) c.args.now c.hear.new.lane.fixed.window
     c.args.lane.now c.hear.new.lane c.stride.new.lane c.speak.new.lane c.hear.ensures.goes s.link s.peer s.fixed s.strides c.speak.ensures.goes
 
 pub returns-in-None-speak-clause-goes : goal.returns-in-None-speak-clause-goes
 returns-in-None-speak-clause-goes g c =
     let s = c.stride.ensures in
-    goes_through (eyes g.L.Link.tells g.L.Link.state g.L.Link.faults g.L.Link.key g.L.Link.plan) c.args.now c.hear.new.lane.fixed.window
+    goes_through (eyes_of g.L.Link) c.args.now c.hear.new.lane.fixed.window
     c.args.lane.now c.hear.new.lane c.stride.new.lane c.speak.new.lane c.hear.ensures.goes s.link s.peer s.fixed s.strides c.speak.ensures.goes
 
 pub returns-in-None-speak-clause-attends : goal.returns-in-None-speak-clause-attends
 returns-in-None-speak-clause-attends g c =
-    let e : Eyes g.row.L.Denot g.row.L-Plan.Denot = eyes g.L.Link.tells g.L.Link.state g.L.Link.faults g.L.Link.key g.L.Link.plan in
+    let e : Eyes g.row.L.Denot g.row.L-Plan.Denot = eyes_of g.L.Link in
     let now = c.args.now in
     let w : Window = c.args.lane.now.fixed.window in
     let s = c.stride.ensures in

@@ -8,7 +8,7 @@ use Rattle.poll_loop.specs.Accounts.{Served}
 use Rattle.poll_loop.specs.Connections.{HasBroken, going_on, service_by, shutting_down}
 use Rattle.poll_loop.specs.Entries.{EntryHolds, Service, spill_faults}
 use Rattle.poll_loop.specs.NoIdle.{Serving, who}
-use Rattle.poll_loop.specs.Seat.{Eyes, eyes}
+use Rattle.poll_loop.specs.Seat.{Eyes, eyes_of}
 use Rattle.poll_loop.specs.Server.{booked, serving}
 use Rattle.poll_loop.specs.declared.settings.Going.{Going}
 use Rattle.poll_loop.specs.declared.settings.ServeFault.{ServeFault}
@@ -61,7 +61,7 @@ served_all result tells script broken e before now old new fresh ended app setti
 pub returns-clause-served : goal.returns-clause-served
 returns-clause-served g c = λ told.
     served_all c.serve-ended.result (telling g.N.Link.Link.tells g.P.Spill.Spill.tells g.A.App.tells) g.A.App.script (HasBroken g.A.Run.AppRun.faults)
-    (eyes g.N.Link.Link.tells g.N.Link.Link.state g.N.Link.Link.faults g.N.Link.Link.key g.N.Link.Link.plan) _ _ (g.N.Net.state c.args.net.now) (g.N.Net.state c.serve-ended.new.net)
+    (eyes_of g.N.Link.Link) _ _ (g.N.Net.state c.args.net.now) (g.N.Net.state c.serve-ended.new.net)
     (serving c.in-Ok.server) (serving c.serve-ended.new.self) c.args.app.now c.args.settings.now c.in-Ok.ensures.begins (c.serve-ended.ensures.served told)
 
 pub returns-in_default-clause-served : goal.returns-in_default-clause-served

@@ -7,7 +7,7 @@ use Rattle.poll_loop.specs.Entries.{EntryHolds}
 use Rattle.poll_loop.specs.Server.{serving}
 use Rattle.poll_loop.specs.Settings.{is_below}
 use Rattle.poll_loop.specs.Lists.{Paired}
-use Rattle.poll_loop.specs.Seat.{Eyes, SeatAsks, eyes}
+use Rattle.poll_loop.specs.Seat.{Eyes, SeatAsks, eyes_of}
 use Rattle.poll_loop.proofs.Books.{accounts_trans, entry_holds_later}
 use Rattle.poll_loop.proofs.Cases.{asks_paired}
 use Rattle.poll_loop.proofs.Carrying.{carries, hosts_more, limit_met, more_same, knows_on, polls_same}
@@ -16,7 +16,7 @@ use Rattle.poll_loop.proofs.server.Server.carry.Goals as goal
 
 pub work-requires-clause-asks : goal.work-requires-clause-asks
 work-requires-clause-asks g c _ _ =
-    let e : Eyes g.row.N-Link.Denot g.row.N-Link-Plan.Denot = eyes g.N.Link.Link.tells g.N.Link.Link.state g.N.Link.Link.faults g.N.Link.Link.key g.N.Link.Link.plan in
+    let e : Eyes g.row.N-Link.Denot g.row.N-Link-Plan.Denot = eyes_of g.N.Link.Link in
     let t = c.in-None.ensures.takes in
     subst (Paired (SeatAsks e c.args.self.now.settings.now.window) (take c.args.asked c.args.self.now.wants.items)) (sym t.are)
     (asks_paired e _ _ _ t.came c.requires.asks.asks c.requires.stands.rest)
@@ -35,7 +35,7 @@ work-requires-clause-hosts g c _ _ tells =
 
 pub returns-in-Some-clause-steps : goal.returns-in-Some-clause-steps
 returns-in-Some-clause-steps g c tells =
-    let e : Eyes g.row.N-Link.Denot g.row.N-Link-Plan.Denot = eyes g.N.Link.Link.tells g.N.Link.Link.state g.N.Link.Link.faults g.N.Link.Link.key g.N.Link.Link.plan in
+    let e : Eyes g.row.N-Link.Denot g.row.N-Link-Plan.Denot = eyes_of g.N.Link.Link in
     let self = c.args.self.now in
     let Holds : NetState g.row.N-Link.Denot g.row.N-Link-Plan.Denot → Retired g.row.N-Link.Denot → Type 0 =
     EntryHolds (service_by (telling g.N.Link.Link.tells g.P.Spill.Spill.tells g.A.App.tells) g.A.App.script self.settings.now self.app.now) (going_on (HasBroken g.A.Run.AppRun.faults)) g.N.Link.Link.state g.N.Link.Link.faults in
@@ -57,7 +57,7 @@ returns-in-Some-clause-steps g c tells =
 
 pub returns-then-below-clause-steps : goal.returns-then-below-clause-steps
 returns-then-below-clause-steps g c tells =
-    let e : Eyes g.row.N-Link.Denot g.row.N-Link-Plan.Denot = eyes g.N.Link.Link.tells g.N.Link.Link.state g.N.Link.Link.faults g.N.Link.Link.key g.N.Link.Link.plan in
+    let e : Eyes g.row.N-Link.Denot g.row.N-Link-Plan.Denot = eyes_of g.N.Link.Link in
     let self = c.args.self.now in
     let Holds : NetState g.row.N-Link.Denot g.row.N-Link-Plan.Denot → Retired g.row.N-Link.Denot → Type 0 =
     EntryHolds (service_by (telling g.N.Link.Link.tells g.P.Spill.Spill.tells g.A.App.tells) g.A.App.script self.settings.now self.app.now) (going_on (HasBroken g.A.Run.AppRun.faults)) g.N.Link.Link.state g.N.Link.Link.faults in
@@ -84,7 +84,7 @@ returns-then-below-clause-steps g c tells =
 
 pub returns-else-below-clause-steps : goal.returns-else-below-clause-steps
 returns-else-below-clause-steps g c tells =
-    let e : Eyes g.row.N-Link.Denot g.row.N-Link-Plan.Denot = eyes g.N.Link.Link.tells g.N.Link.Link.state g.N.Link.Link.faults g.N.Link.Link.key g.N.Link.Link.plan in
+    let e : Eyes g.row.N-Link.Denot g.row.N-Link-Plan.Denot = eyes_of g.N.Link.Link in
     let self = c.args.self.now in
     let Holds : NetState g.row.N-Link.Denot g.row.N-Link-Plan.Denot → Retired g.row.N-Link.Denot → Type 0 =
     EntryHolds (service_by (telling g.N.Link.Link.tells g.P.Spill.Spill.tells g.A.App.tells) g.A.App.script self.settings.now self.app.now) (going_on (HasBroken g.A.Run.AppRun.faults)) g.N.Link.Link.state g.N.Link.Link.faults in
@@ -113,7 +113,7 @@ returns-else-below-clause-steps g c tells =
 
 pub returns-then-below-clause-carries : goal.returns-then-below-clause-carries
 returns-then-below-clause-carries g c _ tells link_tells =
-    let e : Eyes g.row.N-Link.Denot g.row.N-Link-Plan.Denot = eyes g.N.Link.Link.tells g.N.Link.Link.state g.N.Link.Link.faults g.N.Link.Link.key g.N.Link.Link.plan in
+    let e : Eyes g.row.N-Link.Denot g.row.N-Link-Plan.Denot = eyes_of g.N.Link.Link in
     let self = c.args.self.now in
     let Holds : NetState g.row.N-Link.Denot g.row.N-Link-Plan.Denot → Retired g.row.N-Link.Denot → Type 0 =
     EntryHolds (service_by (telling g.N.Link.Link.tells g.P.Spill.Spill.tells g.A.App.tells) g.A.App.script self.settings.now self.app.now) (going_on (HasBroken g.A.Run.AppRun.faults)) g.N.Link.Link.state g.N.Link.Link.faults in

@@ -2,7 +2,7 @@ use Rattle.std.proofs.Common.{Err, Ok, ap, arith, refl, ◌∙◌}
 use Rattle.channel.specs.Views.{telling}
 use Rattle.poll_loop.specs.Connections.{HasBroken, going_on, service_by}
 use Rattle.poll_loop.specs.Entries.{EntryHolds}
-use Rattle.poll_loop.specs.Seat.{eyes}
+use Rattle.poll_loop.specs.Seat.{eyes_of}
 use Rattle.poll_loop.specs.Server.{booked, serving}
 use Rattle.poll_loop.specs.declared.settings.Going.TheVariants as going
 use Rattle.poll_loop.proofs.Ending.{goes_none, serve_again, serve_cause, serve_ended, serve_ends}
@@ -14,7 +14,7 @@ loop-init g c = record {
       (EntryHolds (service_by (telling g.N.Link.Link.tells g.P.Spill.Spill.tells g.A.App.tells) g.A.App.script c.args.self.now.settings.now c.args.self.now.app.now)
       (going_on (HasBroken g.A.Run.AppRun.faults)) g.N.Link.Link.state g.N.Link.Link.faults)
       g.N.Link.Link.plan c.args.self.now.settings.now.serve_limit c.args.self.now.connections.accepted
-      (booked (eyes g.N.Link.Link.tells g.N.Link.Link.state g.N.Link.Link.faults g.N.Link.Link.key g.N.Link.Link.plan)
+      (booked (eyes_of g.N.Link.Link)
       (g.N.Net.state c.args.net.now) (g.P.Spills.faults c.args.spills.now) (serving c.args.self.now));
   hosts = c.requires.hosts;
   stands = c.requires.stands;
@@ -40,14 +40,14 @@ loop-preserved g c =
     record {
       goes = λ tells. serve_again
           (telling g.N.Link.Link.tells g.P.Spill.Spill.tells g.A.App.tells) g.A.App.script g.A.Run.AppRun.faults
-          (eyes g.N.Link.Link.tells g.N.Link.Link.state g.N.Link.Link.faults g.N.Link.Link.key g.N.Link.Link.plan)
+          (eyes_of g.N.Link.Link)
           c.args.self.now.settings.now c.loop.self.settings.now c.args.self.now.app.now c.loop.self.app.now
           c.args.self.now.connections.accepted c.loop.self.connections.accepted
-          (booked (eyes g.N.Link.Link.tells g.N.Link.Link.state g.N.Link.Link.faults g.N.Link.Link.key g.N.Link.Link.plan)
+          (booked (eyes_of g.N.Link.Link)
           (g.N.Net.state c.args.net.now) (g.P.Spills.faults c.args.spills.now) (serving c.args.self.now))
-          (booked (eyes g.N.Link.Link.tells g.N.Link.Link.state g.N.Link.Link.faults g.N.Link.Link.key g.N.Link.Link.plan)
+          (booked (eyes_of g.N.Link.Link)
           (g.N.Net.state c.loop.net) (g.P.Spills.faults c.loop.spills) (serving c.loop.self))
-          (booked (eyes g.N.Link.Link.tells g.N.Link.Link.state g.N.Link.Link.faults g.N.Link.Link.key g.N.Link.Link.plan)
+          (booked (eyes_of g.N.Link.Link)
           (g.N.Net.state c.turn.new.net) (g.P.Spills.faults c.turn.new.spills) (serving c.turn.new.self))
           c.turn.new.self.connections.accepted held.settings held.app (held.goes tells) (made.goes_on on tells) (made.came_more tells) (made.unstopped on tells) (made.knows on tells);
       hosts = made.hosts on;
@@ -67,14 +67,14 @@ returns-in-Ok-Stopped-clause-served g c tells =
     let is = c.in-Ok-Stopped.is ∙ ap Ok c.in-Ok-Stopped.field-0-is in
     serve_ended
     (telling g.N.Link.Link.tells g.P.Spill.Spill.tells g.A.App.tells) g.A.App.script g.A.Run.AppRun.faults
-    (eyes g.N.Link.Link.tells g.N.Link.Link.state g.N.Link.Link.faults g.N.Link.Link.key g.N.Link.Link.plan)
+    (eyes_of g.N.Link.Link)
     c.args.self.now.settings.now c.loop.self.settings.now c.args.self.now.app.now c.loop.self.app.now
     c.args.self.now.connections.accepted c.loop.self.connections.accepted
-    (booked (eyes g.N.Link.Link.tells g.N.Link.Link.state g.N.Link.Link.faults g.N.Link.Link.key g.N.Link.Link.plan)
+    (booked (eyes_of g.N.Link.Link)
     (g.N.Net.state c.args.net.now) (g.P.Spills.faults c.args.spills.now) (serving c.args.self.now))
-    (booked (eyes g.N.Link.Link.tells g.N.Link.Link.state g.N.Link.Link.faults g.N.Link.Link.key g.N.Link.Link.plan)
+    (booked (eyes_of g.N.Link.Link)
     (g.N.Net.state c.loop.net) (g.P.Spills.faults c.loop.spills) (serving c.loop.self))
-    (booked (eyes g.N.Link.Link.tells g.N.Link.Link.state g.N.Link.Link.faults g.N.Link.Link.key g.N.Link.Link.plan)
+    (booked (eyes_of g.N.Link.Link)
     (g.N.Net.state c.turn.new.net) (g.P.Spills.faults c.turn.new.spills) (serving c.turn.new.self))
     c.turn.result (Ok going.Stopped) is held.settings held.app (held.goes tells) (made.served (λ on. absurd (cc (on, is))) tells) (made.still tells)
 
@@ -84,14 +84,14 @@ returns-in-Ok-Stopped-clause-ends g c tells =
     let is = c.in-Ok-Stopped.is ∙ ap Ok c.in-Ok-Stopped.field-0-is in
     serve_ends
     (telling g.N.Link.Link.tells g.P.Spill.Spill.tells g.A.App.tells) g.A.App.script g.A.Run.AppRun.faults
-    (eyes g.N.Link.Link.tells g.N.Link.Link.state g.N.Link.Link.faults g.N.Link.Link.key g.N.Link.Link.plan)
+    (eyes_of g.N.Link.Link)
     c.args.self.now.settings.now c.loop.self.settings.now c.args.self.now.app.now c.loop.self.app.now
     c.args.self.now.connections.accepted c.loop.self.connections.accepted
-    (booked (eyes g.N.Link.Link.tells g.N.Link.Link.state g.N.Link.Link.faults g.N.Link.Link.key g.N.Link.Link.plan)
+    (booked (eyes_of g.N.Link.Link)
     (g.N.Net.state c.args.net.now) (g.P.Spills.faults c.args.spills.now) (serving c.args.self.now))
-    (booked (eyes g.N.Link.Link.tells g.N.Link.Link.state g.N.Link.Link.faults g.N.Link.Link.key g.N.Link.Link.plan)
+    (booked (eyes_of g.N.Link.Link)
     (g.N.Net.state c.loop.net) (g.P.Spills.faults c.loop.spills) (serving c.loop.self))
-    (booked (eyes g.N.Link.Link.tells g.N.Link.Link.state g.N.Link.Link.faults g.N.Link.Link.key g.N.Link.Link.plan)
+    (booked (eyes_of g.N.Link.Link)
     (g.N.Net.state c.turn.new.net) (g.P.Spills.faults c.turn.new.spills) (serving c.turn.new.self))
     c.turn.result (Ok going.Stopped) is held.settings (held.goes tells) (c.turn.ensures.ends tells)
 
@@ -107,14 +107,14 @@ returns-in-Ok-LimitMet-clause-served g c tells =
     let is = c.in-Ok-LimitMet.is ∙ ap Ok c.in-Ok-LimitMet.field-0-is in
     serve_ended
     (telling g.N.Link.Link.tells g.P.Spill.Spill.tells g.A.App.tells) g.A.App.script g.A.Run.AppRun.faults
-    (eyes g.N.Link.Link.tells g.N.Link.Link.state g.N.Link.Link.faults g.N.Link.Link.key g.N.Link.Link.plan)
+    (eyes_of g.N.Link.Link)
     c.args.self.now.settings.now c.loop.self.settings.now c.args.self.now.app.now c.loop.self.app.now
     c.args.self.now.connections.accepted c.loop.self.connections.accepted
-    (booked (eyes g.N.Link.Link.tells g.N.Link.Link.state g.N.Link.Link.faults g.N.Link.Link.key g.N.Link.Link.plan)
+    (booked (eyes_of g.N.Link.Link)
     (g.N.Net.state c.args.net.now) (g.P.Spills.faults c.args.spills.now) (serving c.args.self.now))
-    (booked (eyes g.N.Link.Link.tells g.N.Link.Link.state g.N.Link.Link.faults g.N.Link.Link.key g.N.Link.Link.plan)
+    (booked (eyes_of g.N.Link.Link)
     (g.N.Net.state c.loop.net) (g.P.Spills.faults c.loop.spills) (serving c.loop.self))
-    (booked (eyes g.N.Link.Link.tells g.N.Link.Link.state g.N.Link.Link.faults g.N.Link.Link.key g.N.Link.Link.plan)
+    (booked (eyes_of g.N.Link.Link)
     (g.N.Net.state c.turn.new.net) (g.P.Spills.faults c.turn.new.spills) (serving c.turn.new.self))
     c.turn.result (Ok going.LimitMet) is held.settings held.app (held.goes tells) (made.served (λ on. absurd (cc (on, is))) tells) (made.still tells)
 
@@ -124,14 +124,14 @@ returns-in-Ok-LimitMet-clause-ends g c tells =
     let is = c.in-Ok-LimitMet.is ∙ ap Ok c.in-Ok-LimitMet.field-0-is in
     serve_ends
     (telling g.N.Link.Link.tells g.P.Spill.Spill.tells g.A.App.tells) g.A.App.script g.A.Run.AppRun.faults
-    (eyes g.N.Link.Link.tells g.N.Link.Link.state g.N.Link.Link.faults g.N.Link.Link.key g.N.Link.Link.plan)
+    (eyes_of g.N.Link.Link)
     c.args.self.now.settings.now c.loop.self.settings.now c.args.self.now.app.now c.loop.self.app.now
     c.args.self.now.connections.accepted c.loop.self.connections.accepted
-    (booked (eyes g.N.Link.Link.tells g.N.Link.Link.state g.N.Link.Link.faults g.N.Link.Link.key g.N.Link.Link.plan)
+    (booked (eyes_of g.N.Link.Link)
     (g.N.Net.state c.args.net.now) (g.P.Spills.faults c.args.spills.now) (serving c.args.self.now))
-    (booked (eyes g.N.Link.Link.tells g.N.Link.Link.state g.N.Link.Link.faults g.N.Link.Link.key g.N.Link.Link.plan)
+    (booked (eyes_of g.N.Link.Link)
     (g.N.Net.state c.loop.net) (g.P.Spills.faults c.loop.spills) (serving c.loop.self))
-    (booked (eyes g.N.Link.Link.tells g.N.Link.Link.state g.N.Link.Link.faults g.N.Link.Link.key g.N.Link.Link.plan)
+    (booked (eyes_of g.N.Link.Link)
     (g.N.Net.state c.turn.new.net) (g.P.Spills.faults c.turn.new.spills) (serving c.turn.new.self))
     c.turn.result (Ok going.LimitMet) is held.settings (held.goes tells) (c.turn.ensures.ends tells)
 
@@ -147,14 +147,14 @@ returns-in-Err-clause-served g c tells =
     let is = c.in-Err.is in
     serve_ended
     (telling g.N.Link.Link.tells g.P.Spill.Spill.tells g.A.App.tells) g.A.App.script g.A.Run.AppRun.faults
-    (eyes g.N.Link.Link.tells g.N.Link.Link.state g.N.Link.Link.faults g.N.Link.Link.key g.N.Link.Link.plan)
+    (eyes_of g.N.Link.Link)
     c.args.self.now.settings.now c.loop.self.settings.now c.args.self.now.app.now c.loop.self.app.now
     c.args.self.now.connections.accepted c.loop.self.connections.accepted
-    (booked (eyes g.N.Link.Link.tells g.N.Link.Link.state g.N.Link.Link.faults g.N.Link.Link.key g.N.Link.Link.plan)
+    (booked (eyes_of g.N.Link.Link)
     (g.N.Net.state c.args.net.now) (g.P.Spills.faults c.args.spills.now) (serving c.args.self.now))
-    (booked (eyes g.N.Link.Link.tells g.N.Link.Link.state g.N.Link.Link.faults g.N.Link.Link.key g.N.Link.Link.plan)
+    (booked (eyes_of g.N.Link.Link)
     (g.N.Net.state c.loop.net) (g.P.Spills.faults c.loop.spills) (serving c.loop.self))
-    (booked (eyes g.N.Link.Link.tells g.N.Link.Link.state g.N.Link.Link.faults g.N.Link.Link.key g.N.Link.Link.plan)
+    (booked (eyes_of g.N.Link.Link)
     (g.N.Net.state c.turn.new.net) (g.P.Spills.faults c.turn.new.spills) (serving c.turn.new.self))
     c.turn.result (Err c.in-Err.fault) is held.settings held.app (held.goes tells) (made.served (λ on. absurd (cc (on, is))) tells) (made.still tells)
 
@@ -164,14 +164,14 @@ returns-in-Err-clause-ends g c tells =
     let is = c.in-Err.is in
     serve_ends
     (telling g.N.Link.Link.tells g.P.Spill.Spill.tells g.A.App.tells) g.A.App.script g.A.Run.AppRun.faults
-    (eyes g.N.Link.Link.tells g.N.Link.Link.state g.N.Link.Link.faults g.N.Link.Link.key g.N.Link.Link.plan)
+    (eyes_of g.N.Link.Link)
     c.args.self.now.settings.now c.loop.self.settings.now c.args.self.now.app.now c.loop.self.app.now
     c.args.self.now.connections.accepted c.loop.self.connections.accepted
-    (booked (eyes g.N.Link.Link.tells g.N.Link.Link.state g.N.Link.Link.faults g.N.Link.Link.key g.N.Link.Link.plan)
+    (booked (eyes_of g.N.Link.Link)
     (g.N.Net.state c.args.net.now) (g.P.Spills.faults c.args.spills.now) (serving c.args.self.now))
-    (booked (eyes g.N.Link.Link.tells g.N.Link.Link.state g.N.Link.Link.faults g.N.Link.Link.key g.N.Link.Link.plan)
+    (booked (eyes_of g.N.Link.Link)
     (g.N.Net.state c.loop.net) (g.P.Spills.faults c.loop.spills) (serving c.loop.self))
-    (booked (eyes g.N.Link.Link.tells g.N.Link.Link.state g.N.Link.Link.faults g.N.Link.Link.key g.N.Link.Link.plan)
+    (booked (eyes_of g.N.Link.Link)
     (g.N.Net.state c.turn.new.net) (g.P.Spills.faults c.turn.new.spills) (serving c.turn.new.self))
     c.turn.result (Err c.in-Err.fault) is held.settings (held.goes tells) (c.turn.ensures.ends tells)
 

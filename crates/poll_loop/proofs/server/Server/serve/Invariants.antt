@@ -3,7 +3,7 @@ use Rattle.channel.specs.Views.{telling}
 use Rattle.poll_loop.specs.Connections.{HasBroken, going_on, service_by}
 use Rattle.poll_loop.specs.Entries.{EntryHolds}
 use Rattle.poll_loop.specs.NoIdle.{Hosts}
-use Rattle.poll_loop.specs.Seat.{eyes}
+use Rattle.poll_loop.specs.Seat.{eyes_of}
 use Rattle.poll_loop.specs.Server.{Stands, booked, serving}
 use Rattle.poll_loop.proofs.Ending.{GoesOn}
 use Rattle.poll_loop.proofs.server.Server.serve.Given as goal
@@ -14,13 +14,13 @@ invariant-loop g l = record {
       (EntryHolds (service_by (telling g.N.Link.Link.tells g.P.Spill.Spill.tells g.A.App.tells) g.A.App.script l.fn.self.settings.now l.fn.self.app.now)
       (going_on (HasBroken g.A.Run.AppRun.faults)) g.N.Link.Link.state g.N.Link.Link.faults)
       g.N.Link.Link.plan l.fn.self.settings.now.serve_limit l.fn.self.connections.accepted l.self.connections.accepted
-      (booked (eyes g.N.Link.Link.tells g.N.Link.Link.state g.N.Link.Link.faults g.N.Link.Link.key g.N.Link.Link.plan)
+      (booked (eyes_of g.N.Link.Link)
       (g.N.Net.state l.fn.net) (g.P.Spills.faults l.fn.spills) (serving l.fn.self))
-      (booked (eyes g.N.Link.Link.tells g.N.Link.Link.state g.N.Link.Link.faults g.N.Link.Link.key g.N.Link.Link.plan)
+      (booked (eyes_of g.N.Link.Link)
       (g.N.Net.state l.net) (g.P.Spills.faults l.spills) (serving l.self));
-  hosts : IsTrue g.N.Net.tells → Hosts (eyes g.N.Link.Link.tells g.N.Link.Link.state g.N.Link.Link.faults g.N.Link.Link.key g.N.Link.Link.plan)
+  hosts : IsTrue g.N.Net.tells → Hosts (eyes_of g.N.Link.Link)
       (g.N.Net.state l.net) (serving l.self).open';
-  stands : Stands (eyes g.N.Link.Link.tells g.N.Link.Link.state g.N.Link.Link.faults g.N.Link.Link.key g.N.Link.Link.plan) g.A.Run.AppRun.faults l.self;
+  stands : Stands (eyes_of g.N.Link.Link) g.A.Run.AppRun.faults l.self;
   settings : l.self.settings.now ≡ l.fn.self.settings.now;
   app : l.self.app.now ≡ l.fn.self.app.now;
   polls : g.N.Net.poll_faults l.net ≡ g.N.Net.poll_faults l.fn.net;

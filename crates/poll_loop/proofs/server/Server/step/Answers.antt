@@ -1,5 +1,5 @@
 use Rattle.std.proofs.Common.{◌≡◌, length, map, ap, sym, subst, ◌∙◌, arith, vec_len, nat_lt, ◌&&◌}
-use Rattle.poll_loop.specs.Seat.{Eyes, eyes}
+use Rattle.poll_loop.specs.Seat.{Eyes, eyes_of}
 use Rattle.poll_loop.specs.Connections.{Gathers}
 use Rattle.poll_loop.specs.Server.{serving}
 use Rattle.poll_loop.specs.Settings.{is_below}
@@ -51,7 +51,7 @@ carry-requires-clause-asks g c _ _ =
 
 pub returns-else-turn-clause-no_idle : goal.returns-else-turn-clause-no_idle
 returns-else-turn-clause-no_idle g c on tells link_tells =
-    let e : Eyes g.row.N-Link.Denot g.row.N-Link-Plan.Denot = eyes g.N.Link.Link.tells g.N.Link.Link.state g.N.Link.Link.faults g.N.Link.Link.key g.N.Link.Link.plan in
+    let e : Eyes g.row.N-Link.Denot g.row.N-Link-Plan.Denot = eyes_of g.N.Link.Link in
     let settings = c.args.self.now.settings.now in
     let seats = c.args.self.now.connections.seats.items in
     let ok = c.args.self.now.connections.seats.ok in

@@ -2,7 +2,7 @@ use Rattle.std.proofs.Common.{refl, sym, subst, ◌∙◌, arith}
 use Rattle.channel.specs.declared.types.Window.{Window}
 use Rattle.poll_loop.specs.Connections.{IsOpenedBy, SeatIsTimely, is_kept}
 use Rattle.poll_loop.specs.Lists.{EachIs}
-use Rattle.poll_loop.specs.Seat.{Eyes, SeatRests, eyes}
+use Rattle.poll_loop.specs.Seat.{Eyes, SeatRests, eyes_of}
 use Rattle.poll_loop.proofs.Cases.{as_many_again, filter_each, opened_again, rest_again, seated_again, timely_again}
 use Rattle.poll_loop.proofs.Working.{accounts_as, hosted_room, hosted_timely, hosts_seats, room_after, timely_goes_on, who_is, within_after}
 use Rattle.poll_loop.proofs.server.Server.work.Goals as goal
@@ -34,14 +34,14 @@ retire_over-requires-clause-shelf g c _ _ =
 
 pub returns-clause-accounts : goal.returns-clause-accounts
 returns-clause-accounts g c tells =
-    let e : Eyes g.row.N-Link.Denot g.row.N-Link-Plan.Denot = eyes g.N.Link.Link.tells g.N.Link.Link.state g.N.Link.Link.faults g.N.Link.Link.key g.N.Link.Link.plan in
+    let e : Eyes g.row.N-Link.Denot g.row.N-Link-Plan.Denot = eyes_of g.N.Link.Link in
     let same = seated_again _ e _ _ _ _ _ c.labour_all.ensures.labours in
     accounts_as _ _ _ _ _ _ _ _ _ _ _ _ _ _ _ _ c.labour_all.ensures.spills refl refl refl
     (same ∙ sym (who_is e c.args.self.now.connections.seats.items)) (sym (who_is e c.retire_over.new.connections.seats.items)) (c.retire_over.ensures.accounts tells)
 
 pub returns-clause-hosts : goal.returns-clause-hosts
 returns-clause-hosts g c tells =
-    let e : Eyes g.row.N-Link.Denot g.row.N-Link-Plan.Denot = eyes g.N.Link.Link.tells g.N.Link.Link.state g.N.Link.Link.faults g.N.Link.Link.key g.N.Link.Link.plan in
+    let e : Eyes g.row.N-Link.Denot g.row.N-Link-Plan.Denot = eyes_of g.N.Link.Link in
     let old = g.N.Net.state c.args.net.now in
     let new = g.N.Net.state c.retire_over.new.net in
     let labours = c.labour_all.ensures.labours in
@@ -56,7 +56,7 @@ returns-clause-hosts g c tells =
 
 pub returns-clause-stands : goal.returns-clause-stands
 returns-clause-stands g c =
-    let e : Eyes g.row.N-Link.Denot g.row.N-Link-Plan.Denot = eyes g.N.Link.Link.tells g.N.Link.Link.state g.N.Link.Link.faults g.N.Link.Link.key g.N.Link.Link.plan in
+    let e : Eyes g.row.N-Link.Denot g.row.N-Link-Plan.Denot = eyes_of g.N.Link.Link in
     let s = c.requires.stands in
     let settings = c.args.self.now.settings.now in
     let w : Window = settings.window in
