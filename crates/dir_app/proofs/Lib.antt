@@ -1,0 +1,4 @@
+pub mod FileLemmas
+pub mod MediaLemmas
+pub mod NameLemmas
+pub mod TextLemmas
