@@ -3,10 +3,8 @@ pub mod DirLaws
 pub mod DirScript
 pub mod FileLaws
 pub mod FileSteps
-pub mod LastPart
 pub mod Media
 pub mod MediaTable
-pub mod NameLaws
 pub mod Names
 pub mod Run
 pub mod Texts

@@ -25,6 +25,10 @@ abbrev pub is_name : List ℕ → Bool
 is_name part =
     not (bytes_eq part (codes ".")) && not (bytes_eq part (codes "..")) && not (list_any is_forbidden part)
 
+-- it isn't empty, "." or "..", and has no NUL and no "\"
+abbrev pub leads_down : List ℕ → Bool
+leads_down part = nat_lt 0 (length part) && is_name part
+
 -- none but the last is empty
 abbrev pub are_names : List (List ℕ) → Bool
 are_names [] = true

@@ -3,6 +3,7 @@
 
 mod directory;
 mod file_steps;
+mod laws;
 mod media;
 mod names;
 mod request;
@@ -10,4 +11,5 @@ mod run;
 mod text_steps;
 
 pub use directory::DirApp;
+pub use laws::names_lead_down;
 pub use run::DirRun;

@@ -6,12 +6,8 @@ use Rattle.std.proofs.lemmas.Bool.{and_from, eqb-true, lt-ltb, false≢true}
 use Rattle.std.proofs.lemmas.List.{append-nil}
 use Rattle.std.proofs.lemmas.List.Splits.{join_with_byte-slice_split}
 use Rattle.byte_tables.proofs.Cuts.{some_part}
-use Rattle.dir_app.specs.LastPart.{behind_slash, last_of, longer, onto_last}
-use Rattle.dir_app.specs.Names.{are_names, is_name, is_slash, page, parts, path_of, stays_below}
-
--- it isn't empty, "." or "..", and has no NUL and no "\"
-abbrev pub leads_down : List ℕ → Bool
-leads_down part = nat_lt 0 (length part) && is_name part
+use Rattle.dir_app.proofs.LastPart.{behind_slash, last_of, longer, onto_last}
+use Rattle.dir_app.specs.Names.{are_names, is_name, is_slash, leads_down, page, parts, path_of, stays_below}
 
 -- names lead down where the last one isn't empty, and where a page stands in its place
 first_true : (a b : Bool) → (a && b) ≡ true → a ≡ true
