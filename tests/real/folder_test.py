@@ -5,24 +5,12 @@ import subprocess
 import tempfile
 import unittest
 
-from support import NotServed, PATIENCE, Server, needs, request, response
+from support import PATIENCE, needs, not_found, request, response, serve
 
 SITE = f"{os.path.dirname(os.path.abspath(__file__))}/site"
 
 
-class Folder(unittest.TestCase):
-    """A folder that is served, or a skip while that isn't built."""
-
-    def serve(self, root):
-        try:
-            return self.enterContext(Server(application=("dir", root)))
-        except NotServed as ended:
-            if "not built" in str(ended):
-                self.skipTest("dir is not built yet")
-            raise
-
-
-class Files(Folder):
+class Files(unittest.TestCase):
     def setUp(self):
         root = self.enterContext(tempfile.TemporaryDirectory())
         self.files = {
@@ -37,10 +25,10 @@ class Files(Folder):
         for name, (content, _) in self.files.items():
             with open(f"{root}/{name}", "wb") as file:
                 file.write(content)
-        self.server = self.serve(root)
+        self.server = serve(self, "dir", root)
 
     def ask(self, path, method="GET"):
-        return self.server.exchange(request(method, "1.1").replace(b" / ", f" {path} ".encode()))
+        return self.server.exchange(request(method, "1.1", path=path))
 
     def test_files_and_their_types(self):
         paths = {f"/{name.replace(' ', '%20')}": name for name in self.files}
@@ -53,20 +41,17 @@ class Files(Folder):
                 self.assertEqual(self.ask(path, "HEAD"), whole[: len(whole) - len(content)])
 
     def test_what_is_not_found(self):
-        expected = response(
-            "404 Not Found", b"Not Found", "1.1", None, "text/plain; charset=utf-8"
-        )
         for path in (
             "/no",
             "/inner",
-            "/../" + "etc/passwd",
+            "/../etc/passwd",
             "/%2e%2e/x",
             "/inner//a.JSON",
             "/inner/./a.JSON",
             "/a%00",
         ):
             with self.subTest(path):
-                self.assertEqual(self.ask(path), expected)
+                self.assertEqual(self.ask(path), not_found())
 
     def test_another_method(self):
         answered = self.ask("/", "POST")
@@ -77,7 +62,7 @@ class Files(Folder):
 
 
 @needs("chromium")
-class Chromium(Folder):
+class Chromium(unittest.TestCase):
     def chromium(self, *words):
         with tempfile.TemporaryDirectory() as profile:
             own = ["--headless", "--no-sandbox", "--disable-gpu", f"--user-data-dir={profile}"]
@@ -86,7 +71,7 @@ class Chromium(Folder):
         return html.unescape(shown.stdout.decode())
 
     def test_a_page_with_its_style_script_and_picture(self):
-        server = self.serve(SITE)
+        server = serve(self, "dir", SITE)
         url = f"http://127.0.0.1:{server.port}/"
         # The script writes what became of the style and the picture.
         self.assertIn('<p id="told">rgb(1, 2, 3) 40x30</p>', self.chromium("--dump-dom", url))

@@ -36,6 +36,16 @@ class NotServed(Exception):
     """The program ended, or said something else, before it served."""
 
 
+def serve(test, *application):
+    """Serves an application until the test has ended, or skips the test where it isn't built."""
+    try:
+        return test.enterContext(Server(application=application))
+    except NotServed as ended:
+        if "not built" in str(ended):
+            test.skipTest(f"{application[0]} is not built yet")
+        raise
+
+
 class Server:
     """The program as it serves, on a loopback port of its own unless `listen` says where."""
 
@@ -69,7 +79,7 @@ class Server:
         return socket.create_connection(("127.0.0.1", self.port), timeout=PATIENCE)
 
     def exchange(self, *pieces):
-        """Sends these pieces and the end, and gives all that comes, without the dates."""
+        """Sends these pieces and the end, and gives all that comes, without dates."""
         with self.connect() as link:
             for piece in pieces:
                 link.sendall(piece)
@@ -120,18 +130,22 @@ def get(version, *fields):
     return request("GET", version, *fields)
 
 
-def post(body, *fields, version="1.1"):
-    return request("POST", version, f"Content-Length: {len(body)}", *fields) + body
+def post(body, *fields):
+    return request("POST", "1.1", f"Content-Length: {len(body)}", *fields) + body
 
 
-def request(method, version, *fields):
-    lines = [f"{method} / HTTP/{version}", "Host: a", *fields, "", ""]
+def request(method, version, *fields, path="/"):
+    lines = [f"{method} {path} HTTP/{version}", "Host: a", *fields, "", ""]
     return "\r\n".join(lines).encode()
 
 
 def answer(body=b"", version="1.1", connection=None, media="application/octet-stream"):
     """What the echo says to a request with this body, without its date."""
     return response("200 OK", body, version, connection, media)
+
+
+def not_found():
+    return response("404 Not Found", b"Not Found", "1.1", None, "text/plain; charset=utf-8")
 
 
 def refusal(status, text, version="1.1"):

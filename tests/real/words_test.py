@@ -140,13 +140,6 @@ class Words(unittest.TestCase):
         for words in (["echo", "x"], ["table"], ["dir"], ["dir", ""]):
             self.assert_faulty(words, "wrong number of operands")
 
-    def test_a_table_that_is_not_there(self):
-        ended = run(f"--port={free_port()}", "table", "/no/such/file")
-        self.assertEqual((ended.returncode, ended.stdout), (2, b""))
-        self.assertRegex(
-            ended.stderr, rb"\Awaitress-serve: the application could not be made: .+\n\Z"
-        )
-
     def test_an_address_that_is_taken(self):
         with socket.create_server(("127.0.0.1", 0)) as taken:
             port = taken.getsockname()[1]
