@@ -37,6 +37,14 @@ def ends_within(link, seconds):
     return not is_silent(link, seconds) and link.recv(1) == b""
 
 
+def wait_until(holds):
+    end = time.monotonic() + PATIENCE
+    while not holds():
+        if time.monotonic() > end:
+            raise AssertionError("this never came")
+        time.sleep(0.1)
+
+
 def processor_seconds(process):
     with open(f"/proc/{process.pid}/stat") as stat:
         fields = stat.read().rpartition(")")[2].split()
@@ -86,6 +94,16 @@ class Slow(unittest.TestCase):
             body += read_exactly(link, len(LARGE) - len(body))
             self.assertEqual(body, LARGE)
 
+    def test_a_client_that_asks_and_never_reads_is_held_back(self):
+        asked = get("1.1") * 10000
+        with self.server.connect() as link:
+            link.settimeout(2)
+            sent = 0
+            with self.assertRaises(TimeoutError):
+                while sent < 64 * 1024 * 1024:
+                    sent += link.send(asked)
+            self.assertTrue(self.server.answers())
+
     def test_large_bodies_at_once(self):
         results = []
 
@@ -105,12 +123,13 @@ class Slow(unittest.TestCase):
 
 class Idle(unittest.TestCase):
     def test_who_keeps_the_server_waiting_is_closed(self):
-        with Server("--channel-timeout=1", "--cleanup-interval=1") as server:
+        with Server("--channel-timeout=3", "--cleanup-interval=1") as server:
             with contextlib.ExitStack() as links:
                 silent, half, kept = (links.enter_context(server.connect()) for _ in range(3))
                 half.sendall(get("1.1")[:10])
                 kept.sendall(get("1.1"))
                 self.assertEqual(read_answer(kept), answer())
+                self.assertTrue(is_silent(silent, 2))
                 for link in (silent, half, kept):
                     self.assertTrue(ends_within(link, 10))
             self.assertTrue(server.answers())
@@ -175,6 +194,18 @@ class Many(unittest.TestCase):
                 self.assertEqual(read_answer(link), answer())
                 link.close()
             self.assertTrue(server.answers())
+
+    def test_descriptors_are_given_back(self):
+        with Server() as server:
+            self.assertTrue(server.answers())
+            folder = f"/proc/{server.process.pid}/fd"
+            before = len(os.listdir(folder))
+            for number in range(300):
+                link = server.connect()
+                link.sendall(get("1.1", "Connection: close") if number % 2 else post(b"a")[:-1])
+                reset(link) if number % 3 else link.close()
+            self.assertTrue(server.answers())
+            wait_until(lambda: len(os.listdir(folder)) == before)
 
     def test_an_idle_server_rests(self):
         with Server() as server, server.connect(), server.connect():

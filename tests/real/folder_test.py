@@ -25,6 +25,12 @@ class Files(unittest.TestCase):
         for name, (content, _) in self.files.items():
             with open(f"{root}/{name}", "wb") as file:
                 file.write(content)
+        os.mkfifo(f"{root}/fifo")
+        os.symlink("/dev/zero", f"{root}/device")
+        os.symlink("loop", f"{root}/loop")
+        os.symlink("nowhere", f"{root}/broken")
+        os.symlink("inner/index.html", f"{root}/link.html")
+        self.files["link.html"] = self.files["inner/index.html"]
         self.server = serve(self, "dir", root)
 
     def ask(self, path, method="GET"):
@@ -49,6 +55,12 @@ class Files(unittest.TestCase):
             "/inner//a.JSON",
             "/inner/./a.JSON",
             "/a%00",
+            "/fifo",
+            "/device",
+            "/loop",
+            "/broken",
+            "/" + "a" * 300,
+            "/index.html/",
         ):
             with self.subTest(path):
                 self.assertEqual(self.ask(path), not_found())

@@ -134,6 +134,9 @@ class Words(unittest.TestCase):
         ):
             self.assert_faulty(words, message)
 
+    def test_a_word_that_is_no_text(self):
+        self.assert_ends([b"\xff"], 7)
+
     def test_applications_and_operands(self):
         self.assert_faulty(["--port=8081"], "no application is named")
         self.assert_faulty(["ecko"], "unknown application")
