@@ -4,6 +4,7 @@ import http.client
 import socket
 import subprocess
 import tempfile
+import textwrap
 import threading
 import time
 import unittest
@@ -108,6 +109,15 @@ def ask(method="GET", body=None, fields={}):
     text = answered.read()
     client.close()
     return answered.status, text
+
+
+class Documents(unittest.TestCase):
+    def test_the_readme_shows_the_files_as_they_are(self):
+        with open(f"{ROOT}/README.md") as page:
+            shown = page.read()
+        for name in ("nginx.conf", "waitress-serve.service"):
+            with open(f"{ROOT}/docs/{name}") as file:
+                self.assertIn(textwrap.indent(file.read(), "    "), shown)
 
 
 @needs("nginx")
