@@ -9,7 +9,7 @@ import threading
 import time
 import unittest
 
-from support import PATIENCE, ROOT, Server, answer, get, needs, post, refusal
+from support import PATIENCE, ROOT, Server, answer, get, needs, post, refusal, run
 
 SITE = f"{ROOT}/docs/nginx.conf"
 # Where the site stands, and where it looks for the server.
@@ -118,6 +118,14 @@ class Documents(unittest.TestCase):
         for name in ("nginx.conf", "waitress-serve.service"):
             with open(f"{ROOT}/docs/{name}") as file:
                 self.assertIn(textwrap.indent(file.read(), "    "), shown)
+
+    def test_the_words_of_the_service_are_taken(self):
+        with open(f"{ROOT}/docs/waitress-serve.service") as unit:
+            text = unit.read().replace("\\\n", "")
+        start = next(line for line in text.splitlines() if line.startswith("ExecStart="))
+        options = [word for word in start.split() if word.startswith("--")]
+        self.assertTrue(set(site_options()) <= set(options))
+        self.assertEqual(run("--check", *options).returncode, 0)
 
 
 @needs("nginx")
