@@ -15,7 +15,8 @@ kept_behind : (rest : Result (List Field) Refusal) → kept_of rest ≡ behind [
 kept_behind (Err refusal) = refl
 kept_behind (Ok rest) = refl
 
-pub kept_start : (lines : List (List ℕ)) → kept_fields lines ≡ behind [] (field_lines (unfolded lines))
+pub kept_start : (lines : List (List ℕ)) → kept_fields lines
+    ≡ behind [] (field_lines (unfolded lines))
 unfolding kept_fields
 kept_start lines = kept_behind (field_lines (unfolded lines))
 
@@ -23,5 +24,7 @@ unfolded_nil : unfolded [] ≡ []
 unfolding unfolded
 unfolded_nil = refl
 
-pub kept_end : (before : List Field) (lines : List (List ℕ)) → lines ≡ [] → behind before (field_lines (unfolded lines)) ≡ Ok before
-kept_end before lines e = ap (λ ls. behind before (field_lines (unfolded ls))) e ∙ (ap (λ ls. behind before (field_lines ls)) unfolded_nil ∙ ap Ok (append-nil before))
+pub kept_end : (before : List Field) (lines : List (List ℕ)) → lines ≡ [] →
+    behind before (field_lines (unfolded lines)) ≡ Ok before
+kept_end before lines e = ap (λ ls. behind before (field_lines (unfolded ls))) e
+    ∙ (ap (λ ls. behind before (field_lines ls)) unfolded_nil ∙ ap Ok (append-nil before))

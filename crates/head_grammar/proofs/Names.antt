@@ -1,5 +1,26 @@
 -- Whether names differ, as a set of those so far tells it.
-use Rattle.std.proofs.Common.{◌≡◌, ◌+◌, ◌<◌, ℕ, Bool, true, false, List, [], ◌∷◌, ◌++◌, length, take, drop, get_or, refl, ap, sym, ◌∙◌, Bor}
+use Rattle.std.proofs.Common.{
+  ◌≡◌,
+  ◌+◌,
+  ◌<◌,
+  ℕ,
+  Bool,
+  true,
+  false,
+  List,
+  [],
+  ◌∷◌,
+  ◌++◌,
+  length,
+  take,
+  drop,
+  get_or,
+  refl,
+  ap,
+  sym,
+  ◌∙◌,
+  Bor,
+}
 use Rattle.std.specs.Prelude.{not, ◌&&◌, ◌||◌}
 use Rattle.std.specs.List.{list_any}
 use Rattle.std.specs.Str.{bytes_eq}
@@ -30,33 +51,45 @@ either_same true r = refl
 either_same false r = refl
 
 -- a set with one more name
-insert_step : (o : Ordering) (q : List ℕ) (key x : Bor (List ℕ)) (xs more : List (Bor (List ℕ))) → (o ≡ Equal → key.now ≡ x.now) →
-    list_any (λ k. bytes_eq q k.now) more ≡ (bytes_eq q key.now || list_any (λ k. bytes_eq q k.now) xs) →
-    list_any (λ k. bytes_eq q k.now) (match_ordering o (key ∷ x ∷ xs) (x ∷ xs) (x ∷ more)) ≡ (bytes_eq q key.now || list_any (λ k. bytes_eq q k.now) (x ∷ xs))
+insert_step : (o : Ordering) (q : List ℕ) (key x : Bor (List ℕ)) (xs more : List (Bor (List ℕ))) →
+    (o ≡ Equal → key.now ≡ x.now) →
+    list_any (λ k. bytes_eq q k.now) more ≡ (bytes_eq q key.now
+    || list_any (λ k. bytes_eq q k.now) xs) →
+    list_any (λ k. bytes_eq q k.now) (match_ordering o (key ∷ x ∷ xs) (x ∷ xs) (x ∷ more))
+    ≡ (bytes_eq q key.now || list_any (λ k. bytes_eq q k.now) (x ∷ xs))
 insert_step Less q key x xs more same ih = refl
 insert_step Equal q key x xs more same ih =
-    either_same (bytes_eq q x.now) (list_any (λ k. bytes_eq q k.now) xs) ∙ ap (λ zs. bytes_eq q zs || list_any (λ k. bytes_eq q k.now) (x ∷ xs)) (sym (same refl))
+    either_same (bytes_eq q x.now) (list_any (λ k. bytes_eq q k.now) xs)
+    ∙ ap (λ zs. bytes_eq q zs || list_any (λ k. bytes_eq q k.now) (x ∷ xs)) (sym (same refl))
 insert_step Greater q key x xs more same ih =
-    ap (λ t. bytes_eq q x.now || t) ih ∙ either_swap (bytes_eq q x.now) (bytes_eq q key.now) (list_any (λ k. bytes_eq q k.now) xs)
+    ap (λ t. bytes_eq q x.now || t) ih ∙ either_swap (bytes_eq q x.now) (bytes_eq q key.now)
+    (list_any (λ k. bytes_eq q k.now) xs)
 
 none_more : (t : Bool) → t ≡ (t || false)
 none_more true = refl
 none_more false = refl
 
 pub insert_has : (key : Bor (List ℕ)) (ks : List (Bor (List ℕ))) (q : List ℕ) →
-    list_any (λ k. bytes_eq q k.now) (insert_key (λ x y. slice_cmp nat_cmp x.now y.now) ks key) ≡ (bytes_eq q key.now || list_any (λ k. bytes_eq q k.now) ks)
+    list_any (λ k. bytes_eq q k.now) (insert_key (λ x y. slice_cmp nat_cmp x.now y.now) ks key)
+    ≡ (bytes_eq q key.now || list_any (λ k. bytes_eq q k.now) ks)
 insert_has key [] q = refl
 insert_has key (x ∷ xs) q =
-    insert_step (slice_cmp nat_cmp key.now x.now) q key x xs (insert_key (λ x y. slice_cmp nat_cmp x.now y.now) xs key) (exact_bytes key.now x.now) (insert_has key xs q)
+    insert_step (slice_cmp nat_cmp key.now x.now) q key x xs
+    (insert_key (λ x y. slice_cmp nat_cmp x.now y.now) xs key) (exact_bytes key.now x.now)
+    (insert_has key xs q)
 
 -- what the order finds is what equal bytes find
-pub found_same : (q : List ℕ) (ks : List (Bor (List ℕ))) → list_any (λ k. is_eq (slice_cmp nat_cmp q k.now)) ks ≡ list_any (λ k. bytes_eq q k.now) ks
+pub found_same : (q : List ℕ) (ks : List (Bor (List ℕ))) →
+    list_any (λ k. is_eq (slice_cmp nat_cmp q k.now)) ks ≡ list_any (λ k. bytes_eq q k.now) ks
 found_same q [] = refl
-found_same q (k ∷ ks) = ap (λ t. t || list_any (λ k. is_eq (slice_cmp nat_cmp q k.now)) ks) (is_eq-slice_cmp q k.now) ∙ ap (λ t. bytes_eq q k.now || t) (found_same q ks)
+found_same q (k ∷ ks) = ap (λ t. t || list_any (λ k. is_eq (slice_cmp nat_cmp q k.now)) ks)
+    (is_eq-slice_cmp q k.now) ∙ ap (λ t. bytes_eq q k.now || t) (found_same q ks)
 
 -- one more field at the end
-has_last : (q : List ℕ) (xs : List Field) (f : Field) → have_name q (xs ++ f ∷ []) ≡ (have_name q xs || bytes_eq q f.name)
-has_last q xs f = list_any-append (λ (field : Field). bytes_eq q field.name) xs (f ∷ []) ∙ ap (λ t. have_name q xs || t) (sym (none_more (bytes_eq q f.name)))
+has_last : (q : List ℕ) (xs : List Field) (f : Field) → have_name q (xs ++ f ∷ [])
+    ≡ (have_name q xs || bytes_eq q f.name)
+has_last q xs f = list_any-append (λ (field : Field). bytes_eq q field.name) xs (f ∷ [])
+    ∙ ap (λ t. have_name q xs || t) (sym (none_more (bytes_eq q f.name)))
 
 decides_sym : (s t : Bool) (x y : List ℕ) → Decides s (x ≡ y) → Decides t (y ≡ x) → s ≡ t
 decides_sym true true x y d e = refl
@@ -65,7 +98,8 @@ decides_sym true false x y d e = let wrong : false ≡ true = e.1 (sym (d.0 refl
 decides_sym false true x y d e = let wrong : false ≡ true = d.1 (sym (e.0 refl)) in cc
 
 pub eq_sym : (x y : List ℕ) → bytes_eq x y ≡ bytes_eq y x
-eq_sym x y = decides_sym (bytes_eq x y) (bytes_eq y x) x y (bytes_eq-Decides x y) (bytes_eq-Decides y x)
+eq_sym x y = decides_sym (bytes_eq x y) (bytes_eq y x) x y (bytes_eq-Decides x y)
+    (bytes_eq-Decides y x)
 
 regroup : (a s d h : Bool) → (not (a || s) && (d && not h)) ≡ ((not a && d) && not (s || h))
 regroup true s d h = refl
@@ -74,15 +108,18 @@ regroup false true false h = refl
 regroup false false true h = refl
 regroup false false false h = refl
 
-pub differ_last : (xs : List Field) (f : Field) → names_differ (xs ++ f ∷ []) ≡ (names_differ xs && not (have_name f.name xs))
+pub differ_last : (xs : List Field) (f : Field) → names_differ (xs ++ f ∷ [])
+    ≡ (names_differ xs && not (have_name f.name xs))
 differ_last [] f = refl
 differ_last (x ∷ xs) f =
     ap (λ t. not t && names_differ (xs ++ f ∷ [])) (has_last x.name xs f) ∙
     (ap (λ t. not (have_name x.name xs || bytes_eq x.name f.name) && t) (differ_last xs f) ∙
-    (regroup (have_name x.name xs) (bytes_eq x.name f.name) (names_differ xs) (have_name f.name xs) ∙
+    (regroup (have_name x.name xs) (bytes_eq x.name f.name) (names_differ xs) (have_name f.name xs)
+    ∙
     ap (λ t. names_differ (x ∷ xs) && not (t || have_name f.name xs)) (eq_sym x.name f.name)))
 
-spoiled : (a b d e : Bool) → (not a && d) ≡ false → (a ≡ true → b ≡ true) → (d ≡ false → e ≡ false) → (not b && e) ≡ false
+spoiled : (a b d e : Bool) → (not a && d) ≡ false → (a ≡ true → b ≡ true) →
+    (d ≡ false → e ≡ false) → (not b && e) ≡ false
 spoiled a true d e h more rest = refl
 spoiled true false d e h more rest = let wrong : false ≡ true = more refl in cc
 spoiled false false d e h more rest = rest h
@@ -91,12 +128,15 @@ spoiled false false d e h more rest = rest h
 pub differ_front : (xs ys : List Field) → names_differ xs ≡ false → names_differ (xs ++ ys) ≡ false
 differ_front [] ys h = cc
 differ_front (x ∷ xs) ys h =
-    spoiled (have_name x.name xs) (have_name x.name (xs ++ ys)) (names_differ xs) (names_differ (xs ++ ys)) h
-    (λ has. list_any-append (λ (field : Field). bytes_eq x.name field.name) xs ys ∙ ap (λ t. t || have_name x.name ys) has)
+    spoiled (have_name x.name xs) (have_name x.name (xs ++ ys)) (names_differ xs)
+    (names_differ (xs ++ ys)) h
+    (λ has. list_any-append (λ (field : Field). bytes_eq x.name field.name) xs ys
+    ∙ ap (λ t. t || have_name x.name ys) has)
     (differ_front xs ys)
 
 -- one field more in front
-pub more_is : (fields : List Field) (i : ℕ) (f : Field) → i < length fields → f ≡ get_or fields i f → take (i + 1) fields ≡ take i fields ++ f ∷ []
+pub more_is : (fields : List Field) (i : ℕ) (f : Field) → i < length fields →
+    f ≡ get_or fields i f → take (i + 1) fields ≡ take i fields ++ f ∷ []
 more_is fields i f l e = take_more fields i f l ∙ ap (λ g. take i fields ++ g ∷ []) (sym e)
 
 or_comm : (s t : Bool) → (s || t) ≡ (t || s)
@@ -106,7 +146,8 @@ or_comm false true = refl
 or_comm false false = refl
 
 -- the set with this field's name has the names of the fields up to it
-pub known_more : (fields : List Field) (i : ℕ) (f : Field) (key : Bor (List ℕ)) (ks new : List (Bor (List ℕ))) → i < length fields → f ≡ get_or fields i f →
+pub known_more : (fields : List Field) (i : ℕ) (f : Field) (key : Bor (List ℕ))
+    (ks new : List (Bor (List ℕ))) → i < length fields → f ≡ get_or fields i f →
     key.now ≡ f.name → new ≡ insert_key (λ x y. slice_cmp nat_cmp x.now y.now) ks key →
     ((q : List ℕ) → list_any (λ k. bytes_eq q k.now) ks ≡ have_name q (take i fields)) →
     (q : List ℕ) → list_any (λ k. bytes_eq q k.now) new ≡ have_name q (take (i + 1) fields)
@@ -118,20 +159,28 @@ known_more fields i f key ks new l e name_is new_is known q =
     (sym (has_last q (take i fields) f) ∙ ap (have_name q) (sym (more_is fields i f l e)))))))
 
 -- a name is new where no field before has it
-new_is_not : (fields : List Field) (i : ℕ) (f : Field) (key : Bor (List ℕ)) (ks : List (Bor (List ℕ))) (new : Bool) → key.now ≡ f.name →
+new_is_not : (fields : List Field) (i : ℕ) (f : Field) (key : Bor (List ℕ))
+    (ks : List (Bor (List ℕ))) (new : Bool) → key.now ≡ f.name →
     new ≡ not (list_any (λ k. is_eq (slice_cmp nat_cmp key.now k.now)) ks) →
-    ((q : List ℕ) → list_any (λ k. bytes_eq q k.now) ks ≡ have_name q (take i fields)) → new ≡ not (have_name f.name (take i fields))
+    ((q : List ℕ) → list_any (λ k. bytes_eq q k.now) ks ≡ have_name q (take i fields)) →
+    new ≡ not (have_name f.name (take i fields))
 new_is_not fields i f key ks new name_is new_is known =
-    new_is ∙ ap not (found_same key.now ks ∙ (known key.now ∙ ap (λ q. have_name q (take i fields)) name_is))
+    new_is ∙ ap not (found_same key.now ks ∙ (known key.now
+    ∙ ap (λ q. have_name q (take i fields)) name_is))
 
 -- the names up to this field differ exactly where its name is new
-pub differ_more : (fields : List Field) (i : ℕ) (f : Field) (key : Bor (List ℕ)) (ks : List (Bor (List ℕ))) (new : Bool) → i < length fields → f ≡ get_or fields i f →
+pub differ_more : (fields : List Field) (i : ℕ) (f : Field) (key : Bor (List ℕ))
+    (ks : List (Bor (List ℕ))) (new : Bool) → i < length fields → f ≡ get_or fields i f →
     key.now ≡ f.name → new ≡ not (list_any (λ k. is_eq (slice_cmp nat_cmp key.now k.now)) ks) →
-    ((q : List ℕ) → list_any (λ k. bytes_eq q k.now) ks ≡ have_name q (take i fields)) → names_differ (take i fields) ≡ true →
+    ((q : List ℕ) → list_any (λ k. bytes_eq q k.now) ks ≡ have_name q (take i fields)) →
+    names_differ (take i fields) ≡ true →
     names_differ (take (i + 1) fields) ≡ new
 differ_more fields i f key ks new l e name_is new_is known differ =
     ap names_differ (more_is fields i f l e) ∙ (differ_last (take i fields) f ∙
-    (ap (λ t. t && not (have_name f.name (take i fields))) differ ∙ sym (new_is_not fields i f key ks new name_is new_is known)))
+    (ap (λ t. t && not (have_name f.name (take i fields))) differ
+    ∙ sym (new_is_not fields i f key ks new name_is new_is known)))
 
-pub differ_whole : (fields : List Field) (n : ℕ) → names_differ (take n fields) ≡ false → names_differ fields ≡ false
-differ_whole fields n h = ap names_differ (sym (take-append-drop n fields)) ∙ differ_front (take n fields) (drop n fields) h
+pub differ_whole : (fields : List Field) (n : ℕ) → names_differ (take n fields) ≡ false →
+    names_differ fields ≡ false
+differ_whole fields n h = ap names_differ (sym (take-append-drop n fields))
+    ∙ differ_front (take n fields) (drop n fields) h

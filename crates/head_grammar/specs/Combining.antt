@@ -15,9 +15,11 @@ with_value field more = record { name = field.name; value = field.value ++ codes
 abbrev pub added : List Field → Field → List Field
 added [] field = field ∷ []
 added (first ∷ rest) field =
-    if has_name field.name first then with_value first field.value ∷ rest else first ∷ added rest field
+    if has_name field.name first then with_value first field.value ∷ rest
+    else first ∷ added rest field
 
 -- where the field of each name stands
 abbrev pub ArePlaces : BTreeMap (Bor (List ℕ)) ℕ → List Field → Type 0
 ArePlaces places fields = (name : List ℕ) →
-    get_by (λ k. slice_cmp nat_cmp name k.now) places ≡ position (λ field. has_name name field) fields
+    get_by (λ k. slice_cmp nat_cmp name k.now) places
+    ≡ position (λ field. has_name name field) fields

@@ -1,5 +1,35 @@
 -- What the field lines of a head say (RFC 9112, section 5).
-use Rattle.std.specs.Prelude.{ℕ, Bool, true, false, not, ◌&&◌, ◌==◌, ◌+◌, nat_lt, List, [], ◌∷◌, ◌++◌, length, take, drop, map, filter, codes, position, Option, None, Some, find, option_map, Result, Ok, Err, if◌then◌else◌}
+use Rattle.std.specs.Prelude.{
+  ℕ,
+  Bool,
+  true,
+  false,
+  not,
+  ◌&&◌,
+  ◌==◌,
+  ◌+◌,
+  nat_lt,
+  List,
+  [],
+  ◌∷◌,
+  ◌++◌,
+  length,
+  take,
+  drop,
+  map,
+  filter,
+  codes,
+  position,
+  Option,
+  None,
+  Some,
+  find,
+  option_map,
+  Result,
+  Ok,
+  Err,
+  if◌then◌else◌,
+}
 use Rattle.std.specs.List.{list_all, list_any, flat_map}
 use Rattle.std.specs.Char.{to_ascii_lowercase}
 use Rattle.std.specs.Str.{bytes_eq}
@@ -91,7 +121,8 @@ with_further field rest = record {
 -- whether no two fields have equal names
 abbrev pub names_differ : List Field → Bool
 names_differ [] = true
-names_differ (field ∷ rest) = not (list_any (λ other. has_name field.name other) rest) && names_differ rest
+names_differ (field ∷ rest) = not (list_any (λ other. has_name field.name other) rest)
+    && names_differ rest
 
 -- a name that comes again adds its values to the first field of that name (RFC 9110, section 5.2)
 abbrev pub combined : List Field → List Field
@@ -117,4 +148,5 @@ fields_of lines = combined_of (kept_fields lines)
 
 -- the value of the field with this name
 abbrev pub field_value : List ℕ → List Field → Option (List ℕ)
-field_value name fields = option_map (λ field. field.value) (find (λ field. has_name name field) fields)
+field_value name fields = option_map (λ field. field.value)
+    (find (λ field. has_name name field) fields)

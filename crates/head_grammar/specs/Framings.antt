@@ -1,5 +1,26 @@
 -- How long a body is, and what a head says of the connection (RFC 9112, sections 6.3 and 9.3).
-use Rattle.std.specs.Prelude.{ℕ, Bool, true, false, not, ◌&&◌, ◌||◌, ◌==◌, nat_le, nat_lt, List, length, codes, Option, None, Some, Result, Ok, Err, if◌then◌else◌}
+use Rattle.std.specs.Prelude.{
+  ℕ,
+  Bool,
+  true,
+  false,
+  not,
+  ◌&&◌,
+  ◌||◌,
+  ◌==◌,
+  nat_le,
+  nat_lt,
+  List,
+  length,
+  codes,
+  Option,
+  None,
+  Some,
+  Result,
+  Ok,
+  Err,
+  if◌then◌else◌,
+}
 use Rattle.std.specs.List.{list_all, list_any, slice_split}
 use Rattle.std.specs.Option.{is_some}
 use Rattle.std.specs.Str.{str_eq_ignore_ascii_case}
@@ -78,12 +99,15 @@ has_field name fields = is_some (field_value name fields)
 
 -- A message with both fields may be an attempt to smuggle (RFC 9112, section 6.1).
 abbrev pub has_both : List Field → Bool
-has_both fields = has_field (codes "transfer-encoding") fields && has_field (codes "content-length") fields
+has_both fields = has_field (codes "transfer-encoding") fields
+    && has_field (codes "content-length") fields
 
 -- whether the connection closes behind the response (section 9.3)
 abbrev pub closes_by : Version → Option (List ℕ) → Bool
 closes_by New options = has_option (codes "close") options
-closes_by Old options = has_option (codes "close") options || not (has_option (codes "keep-alive") options)
+closes_by Old options = has_option (codes "close") options
+    || not (has_option (codes "keep-alive") options)
 
 unfoldable pub closes_of : Version → List Field → Bool
-closes_of version fields = closes_by version (field_value (codes "connection") fields) || has_both fields
+closes_of version fields = closes_by version (field_value (codes "connection") fields)
+    || has_both fields

@@ -2,7 +2,8 @@
 ghost use Rattle.std.specs.Prelude.{◌≡◌, ◌≤◌, IfSome, length, not, position};
 ghost use Rattle.std.specs.List.{list_all};
 ghost use Rattle.byte_tables.specs.Classes.{is_field, is_token};
-ghost use Rattle.head_grammar.specs.Classes.{is_white_space, trimmed, without_space_behind, without_space_in_front};
+ghost use Rattle.head_grammar.specs.Classes.{is_white_space, trimmed, without_space_behind};
+ghost use Rattle.head_grammar.specs.Classes.{without_space_in_front};
 
 pub fn is_white_space(byte: u8) -> bool
     ensures { result ≡ is_white_space byte }

@@ -11,7 +11,8 @@ use std::alloc::{AllocError, Global};
 
 // The line with those that continue it, each behind one SP.
 fn joined(alloc: Global, line: &[u8], lines: &mut Lines<'_>) -> Result<Vec<u8>, AllocError>
-    ensures whole { IfOk result (λ whole. spec.onto_lines (spec.first_continues lines.old) line.now (spec.unfolded lines.old) ≡ whole.items ∷ spec.unfolded lines.new) }
+    ensures whole { IfOk result (λ whole. spec.onto_lines (spec.first_continues lines.old) line.now
+        (spec.unfolded lines.old) ≡ whole.items ∷ spec.unfolded lines.new) }
     ensures shorter { length lines.new ≤ length lines.old }
 {
     let mut whole = Vec::from_slice(alloc, line)?;
@@ -28,7 +29,8 @@ fn read_unfolded(
     line: &[u8],
     lines: &mut Lines<'_>,
 ) -> Result<Result<Field, Refusal>, AllocError>
-    ensures said { IfOk result (λ read. spec.field_lines (spec.unfolded (line.now ∷ lines.old)) ≡ spec.onto_fields read (spec.field_lines (spec.unfolded lines.new))) }
+    ensures said { IfOk result (λ read. spec.field_lines (spec.unfolded (line.now ∷ lines.old))
+        ≡ spec.onto_fields read (spec.field_lines (spec.unfolded lines.new))) }
     ensures shorter { length lines.new ≤ length lines.old }
 {
     if !lines.next_continues() {

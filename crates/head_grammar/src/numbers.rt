@@ -24,7 +24,8 @@ pub fn is_number(text: &[u8]) -> bool
 // The number with one more digit, where a u64 can be it.
 fn with_digit(number: u64, digit: u8) -> Option<u64>
     requires { IsTrue (classes.is_digit digit) }
-    ensures { SomeIff result (number * 10 + digit_value digit < 2 ^ 64) (number * 10 + digit_value digit) }
+    ensures { SomeIff result (number * 10 + digit_value digit < 2 ^ 64)
+        (number * 10 + digit_value digit) }
 {
     number.checked_mul(10)?.checked_add(u64::from(digit - b'0'))
 }
@@ -32,7 +33,8 @@ fn with_digit(number: u64, digit: u8) -> Option<u64>
 /// The number that digits write, where a `u64` can be it.
 pub fn number_of(digits: &[u8]) -> Option<u64>
     requires digits { IsTrue (list_all classes.is_digit digits.now) }
-    ensures value { SomeIff result (digits_value 10 digits.now < 2 ^ 64) (digits_value 10 digits.now) }
+    ensures value { SomeIff result (digits_value 10 digits.now < 2 ^ 64)
+        (digits_value 10 digits.now) }
 {
     let mut number = 0;
     for digit in digits {

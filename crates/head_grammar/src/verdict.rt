@@ -63,7 +63,8 @@ fn judge_fields(
     size: usize,
     max_body: u64,
 ) -> Result<Parsed, AllocError>
-    ensures { IfOk result (λ parsed. parsed ≡ spec.by_fields max_body line size (fields_of lines.entry)) }
+    ensures { IfOk result (λ parsed. parsed ≡ spec.by_fields max_body line size
+        (fields_of lines.entry)) }
 {
     let fields = match read_fields(alloc, lines)? {
         Ok(fields) => fields,
@@ -81,7 +82,8 @@ fn judge(
     size: usize,
     max_body: u64,
 ) -> Result<Parsed, AllocError>
-    ensures { IfOk result (λ parsed. parsed ≡ spec.verdict_of max_body (skip_empty lines.entry) size) }
+    ensures { IfOk result (λ parsed. parsed ≡ spec.verdict_of max_body
+        (skip_empty lines.entry) size) }
 {
     let Some(first) = lines.skip_empty() else {
         return Ok(Parsed::Blank);

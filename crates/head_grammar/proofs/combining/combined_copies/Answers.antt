@@ -15,5 +15,6 @@ loop-field-preserved c =
       same = c.in_ok-add_field.ensures.fields ∙
           (ap (λ front. added front c.field-item.result) c.loop-field.invariant.same ∙
           (sym (combined_more (take i fields) c.field-item.result) ∙
-          ap spec.combined (sym (more_is fields i c.field-item.result c.loop-field-test.true c.field-item.is))));
+          ap spec.combined (sym (more_is fields i c.field-item.result c.loop-field-test.true
+          c.field-item.is))));
     }

@@ -8,6 +8,7 @@ use Rattle.head_grammar.proofs.combining.names_differ.Given as goal
 
 abbrev pub invariant-loop-field : goal.invariant-loop-field
 invariant-loop-field l = record {
-  known : (q : List ℕ) → list_any (λ k. bytes_eq q k.now) l.names.keys ≡ have_name q (take l.field-index l.fields);
+  known : (q : List ℕ) → list_any (λ k. bytes_eq q k.now) l.names.keys
+      ≡ have_name q (take l.field-index l.fields);
   differ : names_differ (take l.field-index l.fields) ≡ true;
 }

@@ -9,9 +9,12 @@ loop-next-preserved c =
     let lines_is = c.in-Some.ensures.some in
     record {
       same = c.loop-next.invariant.same ∙
-          (ap (λ ls. onto_lines (first_continues ls) c.loop-next.whole.items (unfolded ls)) lines_is ∙
-          (joined_more c.loop-next.whole.items c.in-Some.next.now c.next_continued.new.self c.in-Some.ensures.continued ∙
-          ap (λ whole. onto_lines (first_continues c.next_continued.new.self) whole (unfolded c.next_continued.new.self)) (search rules)));
+          (ap (λ ls. onto_lines (first_continues ls) c.loop-next.whole.items (unfolded ls)) lines_is
+          ∙
+          (joined_more c.loop-next.whole.items c.in-Some.next.now c.next_continued.new.self
+          c.in-Some.ensures.continued ∙
+          ap (λ whole. onto_lines (first_continues c.next_continued.new.self) whole
+          (unfolded c.next_continued.new.self)) (search rules)));
       shorter = let e = ap length lines_is in let s = c.loop-next.invariant.shorter in omega arith;
     }
 

@@ -5,7 +5,8 @@ use Rattle.head_grammar.proofs.field_lines.joined.Given as goal
 
 abbrev pub invariant-loop-next : goal.invariant-loop-next
 invariant-loop-next l = record {
-  same : onto_lines (first_continues l.fn.lines) l.line (unfolded l.fn.lines) ≡ onto_lines (first_continues l.lines) l.whole.items (unfolded l.lines);
+  same : onto_lines (first_continues l.fn.lines) l.line (unfolded l.fn.lines)
+      ≡ onto_lines (first_continues l.lines) l.whole.items (unfolded l.lines);
   shorter : length l.lines ≤ length l.fn.lines;
 }
 

@@ -9,9 +9,11 @@ pub loop-line-init : goal.loop-line-init
 loop-line-init c = record {
   can = search rules;
   ends = search rules;
-  same = kept_start c.args.lines ∙ ap (λ fields. behind fields (field_lines (unfolded c.args.lines))) (sym c.new-fields.ensures.items);
+  same = kept_start c.args.lines ∙ ap (λ fields. behind fields
+      (field_lines (unfolded c.args.lines))) (sym c.new-fields.ensures.items);
 }
 
 pub returns : goal.returns
 returns c =
-    ap Ok c.from_vec.ensures ∙ sym (c.loop-line.invariant.same ∙ kept_end c.loop-line.fields.items c.loop-line.lines (search rules))
+    ap Ok c.from_vec.ensures ∙ sym (c.loop-line.invariant.same
+    ∙ kept_end c.loop-line.fields.items c.loop-line.lines (search rules))

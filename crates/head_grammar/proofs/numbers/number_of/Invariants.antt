@@ -5,4 +5,7 @@ use Rattle.std.specs.Str.Parse.{digits_value}
 use Rattle.head_grammar.proofs.numbers.number_of.Given as goal
 
 abbrev pub invariant-loop-digit : goal.invariant-loop-digit
-invariant-loop-digit l = record { value : l.number ≡ digits_value 10 (take l.digit-index l.digits); fits : l.number < 2 ^ 64 }
+invariant-loop-digit l = record {
+  value : l.number ≡ digits_value 10 (take l.digit-index l.digits);
+  fits : l.number < 2 ^ 64;
+}

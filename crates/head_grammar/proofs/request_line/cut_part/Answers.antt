@@ -7,9 +7,13 @@ use Rattle.head_grammar.proofs.request_line.cut_part.Goals as goal
 
 pub returns-in_err-at-clause-whole : goal.returns-in_err-at-clause-whole
 returns-in_err-at-clause-whole c =
-    subst (λ r. IfNone r (parts c.args.line.now ≡ c.args.line.now ∷ [])) (sym c.from_residual.ensures) (cut_none (λ b. b == 32) c.args.line.now (sym c.place_of.ensures.first ∙ c.in_err-at.was))
+    subst (λ r. IfNone r (parts c.args.line.now ≡ c.args.line.now ∷ []))
+    (sym c.from_residual.ensures) (cut_none (λ b. b == 32) c.args.line.now
+    (sym c.place_of.ensures.first ∙ c.in_err-at.was))
 
 pub returns-clause-cut : goal.returns-clause-cut
 returns-clause-cut c =
-    cut_some (λ b. b == 32) c.args.line.now c.in_ok-at.at (sym c.place_of.ensures.first ∙ c.in_ok-at.was) ∙
-    ap (λ (xs : List ℕ). take c.in_ok-at.at c.args.line.now ∷ parts xs) (sym (rest_is c.args.line.now (c.in_ok-at.at + 1)))
+    cut_some (λ b. b == 32) c.args.line.now c.in_ok-at.at (sym c.place_of.ensures.first
+    ∙ c.in_ok-at.was) ∙
+    ap (λ (xs : List ℕ). take c.in_ok-at.at c.args.line.now ∷ parts xs)
+    (sym (rest_is c.args.line.now (c.in_ok-at.at + 1)))

@@ -6,4 +6,5 @@ use Rattle.head_grammar.proofs.splits.place_or_end.Goals as goal
 
 pub returns-clause-place : goal.returns-clause-place
 returns-clause-place c =
-    c.unwrap_or.ensures ∙ (ap (λ r. unwrap_or r (length c.args.bytes.now)) c.place_of.ensures.first ∙ first_or_end (λ b. b == c.args.sought) c.args.bytes.now)
+    c.unwrap_or.ensures ∙ (ap (λ r. unwrap_or r (length c.args.bytes.now)) c.place_of.ensures.first
+    ∙ first_or_end (λ b. b == c.args.sought) c.args.bytes.now)

@@ -5,7 +5,8 @@ use Rattle.head_grammar.proofs.EndLaws.{head_end-four}
 use Rattle.head_grammar.proofs.verdict.read_head.Goals as goal
 
 pub slice_bounds-new-count : goal.slice_bounds-new-count
-slice_bounds-new-count c = let four = head_end-four c.args.bytes.now (length c.args.bytes.now) c.requires in omega arith
+slice_bounds-new-count c = let four = head_end-four c.args.bytes.now
+    (length c.args.bytes.now) c.requires in omega arith
 
 pub returns-clause-verdict : goal.returns-clause-verdict
 unfolding verdict
