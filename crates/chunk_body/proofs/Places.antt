@@ -3,12 +3,18 @@
 use Rattle.std.specs.Prelude.{◌≡◌, ◌<◌, ◌+◌, ◌⊎◌, ℕ, false, List, [], ◌∷◌, ◌++◌, length}
 use Rattle.std.specs.List.{AllByRecursion}
 use Rattle.chunk_body.specs.Coded.{Chunk, IsChunk, text, joined, AreDigits, IsTrailer, IsCoded}
-use Rattle.chunk_body.specs.Verdicts.{InBlanks, InExtension, InLineEnd, InData, BehindLast, IsOpenTrailer, IsProperFront, IsWrong}
+use Rattle.chunk_body.specs.Verdicts.{InBlanks, InExtension, InLineEnd, InData, BehindLast}
+use Rattle.chunk_body.specs.Verdicts.{IsOpenTrailer, IsProperFront, IsWrong}
 use Rattle.byte_tables.specs.declared.refusal.Refusal.{Refusal}
-use Rattle.byte_tables.specs.declared.refusal.Refusal.TheVariants.{BodyTooLarge, ChunkSize, ChunkExtension, ChunkLineEnd, ChunkLineLong, ChunkEnd, TrailerTooLarge}
+use Rattle.byte_tables.specs.declared.refusal.Refusal.TheVariants.{BodyTooLarge, ChunkSize}
+use Rattle.byte_tables.specs.declared.refusal.Refusal.TheVariants.{ChunkExtension, ChunkLineEnd}
+use Rattle.byte_tables.specs.declared.refusal.Refusal.TheVariants.{ChunkLineLong, ChunkEnd}
+use Rattle.byte_tables.specs.declared.refusal.Refusal.TheVariants.{TrailerTooLarge}
 use Rattle.chunk_body.specs.Reading.{mark_step, line_bytes, has_ended}
 use Rattle.chunk_body.specs.declared.place.Place.{Place}
-use Rattle.chunk_body.specs.declared.place.Place.TheVariants.{LineStart, Digits, Blanks, Extension, LineCr, Data, DataEnd, DataCr, Trailer, Over, Refused}
+use Rattle.chunk_body.specs.declared.place.Place.TheVariants.{LineStart, Digits, Blanks, Extension}
+use Rattle.chunk_body.specs.declared.place.Place.TheVariants.{LineCr, Data, DataEnd, DataCr}
+use Rattle.chunk_body.specs.declared.place.Place.TheVariants.{Trailer, Over, Refused}
 
 abbrev pub mark_from : ℕ → List ℕ → ℕ
 mark_from m [] = m
@@ -24,7 +30,8 @@ IsPartAt (LineCr n k) part got = InLineEnd part k × (n ≡ length part) × (got
 IsPartAt (Data left) part got = InData part got [] left × (0 < left)
 IsPartAt DataEnd part got = InData part got [] 0
 IsPartAt DataCr part got = InData part got (13 ∷ []) 0
-IsPartAt (Trailer n m) part got = (t : List ℕ) × BehindLast part t × IsOpenTrailer t × (n ≡ length t) × (m ≡ mark_from 2 t) × (got ≡ [])
+IsPartAt (Trailer n m) part got = (t : List ℕ) × BehindLast part t × IsOpenTrailer t
+    × (n ≡ length t) × (m ≡ mark_from 2 t) × (got ≡ [])
 IsPartAt Over part got = (t : List ℕ) × BehindLast part t × IsTrailer t × (got ≡ [])
 IsPartAt (Refused r) part got = ⊥
 
@@ -69,10 +76,12 @@ pub record IsTrailerLimit (max : ℕ) (before : List ℕ) : Type 0 where
   pub full : count + 1 ≡ max
 
 abbrev pub IsLimit : ℕ → ℕ → List ℕ → ℕ → Type 0
-IsLimit max_body max_trailer before byte = (length before + 1 ≡ max_body) ⊎ (IsLineLimit before byte ⊎ IsTrailerLimit max_trailer before)
+IsLimit max_body max_trailer before byte = (length before + 1 ≡ max_body)
+    ⊎ (IsLineLimit before byte ⊎ IsTrailerLimit max_trailer before)
 
 pub record IsWithin (max_body max_trailer : ℕ) (wire : List ℕ) : Type 0 where
-  pub none : (before after : List ℕ) (byte : ℕ) → wire ≡ before ++ (byte ∷ after) → IsLimit max_body max_trailer before byte → ⊥
+  pub none : (before after : List ℕ) (byte : ℕ) → wire ≡ before ++ (byte ∷ after) →
+      IsLimit max_body max_trailer before byte → ⊥
 
 pub record IsOpen (max_body max_trailer : ℕ) (wire body : List ℕ) : Type 0 where
   pub place : Place
@@ -85,13 +94,20 @@ pub record IsWhole (max_body max_trailer : ℕ) (wire body : List ℕ) : Type 0 
   pub coded : IsCoded wire body
   pub within : IsWithin max_body max_trailer wire
 
-pub data Because (max_body max_trailer : ℕ) (place : Place) (before : List ℕ) (byte : ℕ) : Refusal → Type 0 where
-  large : length before + 1 ≡ max_body → Because max_body max_trailer place before byte (BodyTooLarge max_body)
-  late : (length before + 1 ≡ max_body → ⊥) → IsTrailerLimit max_trailer before → Because max_body max_trailer place before byte (TrailerTooLarge max_trailer)
-  wrong : (length before + 1 ≡ max_body → ⊥) → (IsTrailerLimit max_trailer before → ⊥) → IsWrong (before ++ byte ∷ []) → Because max_body max_trailer place before byte (refusal_at place)
-  long : (length before + 1 ≡ max_body → ⊥) → (IsWrong (before ++ byte ∷ []) → ⊥) → IsLineLimit before byte → Because max_body max_trailer place before byte ChunkLineLong
+pub data Because (max_body max_trailer : ℕ) (place : Place) (before : List ℕ) (byte : ℕ) : Refusal →
+    Type 0 where
+  large : length before + 1 ≡ max_body → Because max_body max_trailer place before byte
+      (BodyTooLarge max_body)
+  late : (length before + 1 ≡ max_body → ⊥) → IsTrailerLimit max_trailer before →
+      Because max_body max_trailer place before byte (TrailerTooLarge max_trailer)
+  wrong : (length before + 1 ≡ max_body → ⊥) → (IsTrailerLimit max_trailer before → ⊥) →
+      IsWrong (before ++ byte ∷ []) → Because max_body max_trailer place before byte
+      (refusal_at place)
+  long : (length before + 1 ≡ max_body → ⊥) → (IsWrong (before ++ byte ∷ []) → ⊥) →
+      IsLineLimit before byte → Because max_body max_trailer place before byte ChunkLineLong
 
-pub record IsRefused (max_body max_trailer : ℕ) (wire body : List ℕ) (refusal : Refusal) : Type 0 where
+pub record IsRefused (max_body max_trailer : ℕ) (wire body : List ℕ)
+    (refusal : Refusal) : Type 0 where
   pub before : List ℕ
   pub byte : ℕ
   pub after : List ℕ

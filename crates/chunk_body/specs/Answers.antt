@@ -1,10 +1,13 @@
 -- What an answer to a piece says.
-use Rattle.std.specs.Prelude.{◌≡◌, ◌≤◌, ◌<◌, ◌+◌, ℕ, List, [], ◌++◌, length, take, Option, Some, None}
+use Rattle.std.specs.Prelude.{◌≡◌, ◌≤◌, ◌<◌, ◌+◌, ℕ, List, [], ◌++◌, length, take, Option, Some}
+use Rattle.std.specs.Prelude.{None}
 use Rattle.chunk_body.specs.Reading.{Reading, Reads}
 use Rattle.chunk_body.specs.Verdicts.{IsOpen, IsWhole, IsRefused}
 use Rattle.chunk_body.specs.Bodies.{coded, whole, wrong, partial}
 use Rattle.chunk_body.specs.declared.place.Place.{Place}
-use Rattle.chunk_body.specs.declared.place.Place.TheVariants.{LineStart, Digits, Blanks, Extension, LineCr, Data, DataEnd, DataCr, Trailer, Over, Refused}
+use Rattle.chunk_body.specs.declared.place.Place.TheVariants.{LineStart, Digits, Blanks, Extension}
+use Rattle.chunk_body.specs.declared.place.Place.TheVariants.{LineCr, Data, DataEnd, DataCr}
+use Rattle.chunk_body.specs.declared.place.Place.TheVariants.{Trailer, Over, Refused}
 use Rattle.chunk_body.specs.declared.chunks.Fed.{Fed}
 use Rattle.chunk_body.specs.declared.chunks.Fed.TheVariants.{More, Done, Bad, NoMemory}
 
@@ -23,23 +26,36 @@ read_of NoMemory piece = []
 
 -- What it says of all bytes so far.
 abbrev pub Tells : Fed → ℕ → ℕ → List ℕ → List ℕ → List ℕ → List ℕ → Type 0
-Tells More max_body max_trailer wire body piece got = IsOpen max_body max_trailer (wire ++ piece) (body ++ got)
-Tells (Done n) max_body max_trailer wire body piece got = (n ≤ length piece) × IsWhole max_body max_trailer (wire ++ take n piece) (body ++ got)
-Tells (Bad refusal) max_body max_trailer wire body piece got = IsRefused max_body max_trailer (wire ++ piece) (body ++ got) refusal
+Tells More max_body max_trailer wire body piece got =
+    IsOpen max_body max_trailer (wire ++ piece) (body ++ got)
+Tells (Done n) max_body max_trailer wire body piece got = (n ≤ length piece)
+    × IsWhole max_body max_trailer (wire ++ take n piece) (body ++ got)
+Tells (Bad refusal) max_body max_trailer wire body piece got =
+    IsRefused max_body max_trailer (wire ++ piece) (body ++ got) refusal
 Tells NoMemory max_body max_trailer wire body piece got = got ≡ []
 
 -- What stands at the front of them, where they were a part of a body before.
 abbrev pub Decides : Fed → ℕ → ℕ → List ℕ → List ℕ → List ℕ → List ℕ → Type 0
-Decides More max_body max_trailer wire content piece got = coded max_body max_trailer (wire ++ piece) ≡ partial (content ++ got)
-Decides (Done n) max_body max_trailer wire content piece got = coded max_body max_trailer (wire ++ take n piece) ≡ whole (length wire + n) (content ++ got)
-Decides (Bad refusal) max_body max_trailer wire content piece got = (place : ℕ) × (length wire ≤ place) × (coded max_body max_trailer (wire ++ piece) ≡ wrong place refusal)
+Decides More max_body max_trailer wire content piece got =
+    coded max_body max_trailer (wire ++ piece) ≡ partial (content ++ got)
+Decides (Done n) max_body max_trailer wire content piece got =
+    coded max_body max_trailer (wire ++ take n piece) ≡ whole (length wire + n) (content ++ got)
+Decides (Bad refusal) max_body max_trailer wire content piece got =
+    (place : ℕ) × (length wire ≤ place) × (coded max_body max_trailer (wire ++ piece)
+    ≡ wrong place refusal)
 Decides NoMemory max_body max_trailer wire content piece got = got ≡ []
 
 -- An answer to a piece, and the data that it gave, whatever bytes were read before.
 pub record IsFed (answer : Fed) (piece got : List ℕ) (old new : Reading) : Type 0 where
-  pub goes_on : (max_body max_trailer : ℕ) (wire body : List ℕ) → Reads max_body max_trailer old wire body → Reads max_body max_trailer new (wire ++ read_of answer piece) (body ++ got)
-  pub tells : (max_body max_trailer : ℕ) (wire body : List ℕ) → Reads max_body max_trailer old wire body → Tells answer max_body max_trailer wire body piece got
-  pub decides : (max_body max_trailer : ℕ) (wire content : List ℕ) → Reads max_body max_trailer old wire content → coded max_body max_trailer wire ≡ partial content → Decides answer max_body max_trailer wire content piece got
+  pub goes_on : (max_body max_trailer : ℕ) (wire body : List ℕ) →
+      Reads max_body max_trailer old wire body → Reads max_body max_trailer new
+      (wire ++ read_of answer piece) (body ++ got)
+  pub tells : (max_body max_trailer : ℕ) (wire body : List ℕ) →
+      Reads max_body max_trailer old wire body → Tells answer max_body max_trailer wire body piece
+      got
+  pub decides : (max_body max_trailer : ℕ) (wire content : List ℕ) →
+      Reads max_body max_trailer old wire content → coded max_body max_trailer wire
+      ≡ partial content → Decides answer max_body max_trailer wire content piece got
 
 -- the room got these bytes at its end
 abbrev pub Gives : List ℕ → List ℕ → (List ℕ → Type 0) → Type 0

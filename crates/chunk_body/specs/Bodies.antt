@@ -4,7 +4,9 @@ use Rattle.byte_tables.specs.declared.refusal.Refusal.{Refusal}
 use Rattle.chunk_body.specs.Verdicts.{IsOpen, IsWhole, IsRefused}
 use Rattle.chunk_body.specs.Reading.{fresh, reads, decodes}
 use Rattle.chunk_body.specs.declared.place.Place.{Place}
-use Rattle.chunk_body.specs.declared.place.Place.TheVariants.{LineStart, Digits, Blanks, Extension, LineCr, Data, DataEnd, DataCr, Trailer, Over, Refused}
+use Rattle.chunk_body.specs.declared.place.Place.TheVariants.{LineStart, Digits, Blanks, Extension}
+use Rattle.chunk_body.specs.declared.place.Place.TheVariants.{LineCr, Data, DataEnd, DataCr}
+use Rattle.chunk_body.specs.declared.place.Place.TheVariants.{Trailer, Over, Refused}
 
 pub data Body : Type 0 where
   -- so many bytes are a whole body, and this is its data
@@ -15,15 +17,18 @@ pub data Body : Type 0 where
   partial : (content : List ℕ) → Body
 
 -- the byte at this place is refused
-pub record IsRefusedAt (max_body max_trailer : ℕ) (bytes : List ℕ) (place : ℕ) (refusal : Refusal) : Type 0 where
+pub record IsRefusedAt (max_body max_trailer : ℕ) (bytes : List ℕ) (place : ℕ)
+    (refusal : Refusal) : Type 0 where
   pub content : List ℕ
   pub refused : IsRefused max_body max_trailer bytes content refusal
   pub here : length refused.before ≡ place
 
 -- What each says of the bytes. Exactly one holds of all bytes: the clause `bodies` of `one_front`.
 abbrev pub IsFront : ℕ → ℕ → List ℕ → Body → Type 0
-IsFront max_body max_trailer bytes (whole taken content) = (taken ≤ length bytes) × IsWhole max_body max_trailer (take taken bytes) content
-IsFront max_body max_trailer bytes (wrong place refusal) = IsRefusedAt max_body max_trailer bytes place refusal
+IsFront max_body max_trailer bytes (whole taken content) = (taken ≤ length bytes)
+    × IsWhole max_body max_trailer (take taken bytes) content
+IsFront max_body max_trailer bytes (wrong place refusal) =
+    IsRefusedAt max_body max_trailer bytes place refusal
 IsFront max_body max_trailer bytes (partial content) = IsOpen max_body max_trailer bytes content
 
 -- a reader's place as a body
@@ -43,7 +48,9 @@ body_at (Refused refusal) taken content = wrong (taken - 1) refusal
 -- The one of which `IsFront` holds, as a reader finds it.
 unfoldable pub coded : ℕ → ℕ → List ℕ → Body
 coded max_body max_trailer bytes =
-    body_at (reads (fresh max_body max_trailer) bytes).place (reads (fresh max_body max_trailer) bytes).taken (decodes (fresh max_body max_trailer) bytes)
+    body_at (reads (fresh max_body max_trailer) bytes).place
+    (reads (fresh max_body max_trailer) bytes).taken
+    (decodes (fresh max_body max_trailer) bytes)
 
 -- no more bytes change it
 abbrev pub IsSettled : Body → Type 0

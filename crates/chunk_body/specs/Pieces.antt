@@ -15,9 +15,11 @@ IsEnd (end.Refused refusal) place = place ≡ Refused refusal
 
 abbrev pub ReadsPiece : Fed → List ℕ → Reading → Reading → List ℕ → Type 0
 ReadsPiece fed.More piece old new got =
-    (has_ended new.place ≡ false) × (new ≡ reads old piece) × (got ≡ decodes old piece) × (new.taken ≡ old.taken + length piece)
+    (has_ended new.place ≡ false) × (new ≡ reads old piece) × (got ≡ decodes old piece)
+    × (new.taken ≡ old.taken + length piece)
 ReadsPiece (fed.Done n) piece old new got =
-    (n ≤ length piece) × (new ≡ reads old (take n piece)) × (got ≡ decodes old (take n piece)) × (new.place ≡ Over) × (new.taken ≡ old.taken + n)
+    (n ≤ length piece) × (new ≡ reads old (take n piece)) × (got ≡ decodes old (take n piece))
+    × (new.place ≡ Over) × (new.taken ≡ old.taken + n)
 ReadsPiece (fed.Bad refusal) piece old new got =
     (new ≡ reads old piece) × (got ≡ decodes old piece) × (new.place ≡ Refused refusal)
 ReadsPiece fed.NoMemory piece old new got = (new ≡ old) × (got ≡ [])

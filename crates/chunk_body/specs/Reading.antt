@@ -1,17 +1,25 @@
 -- Reading the chunked coding byte by byte, as the code does. `coded` of specs/Bodies.antt is
 -- computed by it; what it says is the law `one_front`, by specs/Verdicts.antt alone.
-use Rattle.std.specs.Prelude.{◌≡◌, ◌≤◌, ◌<◌, ◌+◌, ◌*◌, ◌-◌, ◌^◌, ℕ, zero, suc, min, Bool, true, false, ◌||◌, nat_lt, nat_eq, List, [], ◌∷◌, ◌++◌, length, if◌then◌else◌}
+use Rattle.std.specs.Prelude.{◌≡◌, ◌≤◌, ◌<◌, ◌+◌, ◌*◌, ◌-◌, ◌^◌, ℕ, zero, suc, min, Bool, true}
+use Rattle.std.specs.Prelude.{false, ◌||◌, nat_lt, nat_eq, List, [], ◌∷◌, ◌++◌, length}
+use Rattle.std.specs.Prelude.{if◌then◌else◌}
 use Rattle.byte_tables.specs.Classes.{is_hex, is_field}
 use Rattle.chunk_body.specs.Coded.{hex_of, is_blank}
-use Rattle.byte_tables.specs.declared.refusal.Refusal.TheVariants.{BodyTooLarge, ChunkSize, ChunkExtension, ChunkLineEnd, ChunkLineLong, ChunkEnd, TrailerTooLarge}
+use Rattle.byte_tables.specs.declared.refusal.Refusal.TheVariants.{BodyTooLarge, ChunkSize}
+use Rattle.byte_tables.specs.declared.refusal.Refusal.TheVariants.{ChunkExtension, ChunkLineEnd}
+use Rattle.byte_tables.specs.declared.refusal.Refusal.TheVariants.{ChunkLineLong, ChunkEnd}
+use Rattle.byte_tables.specs.declared.refusal.Refusal.TheVariants.{TrailerTooLarge}
 use Rattle.chunk_body.specs.declared.place.Place.{Place}
-use Rattle.chunk_body.specs.declared.place.Place.TheVariants.{LineStart, Digits, Blanks, Extension, LineCr, Data, DataEnd, DataCr, Trailer, Over, Refused}
+use Rattle.chunk_body.specs.declared.place.Place.TheVariants.{LineStart, Digits, Blanks, Extension}
+use Rattle.chunk_body.specs.declared.place.Place.TheVariants.{LineCr, Data, DataEnd, DataCr}
+use Rattle.chunk_body.specs.declared.place.Place.TheVariants.{Trailer, Over, Refused}
 
 -- how much of CR LF CR LF stands at the end, with one more byte; a trailer section begins with two
 -- of them, since it stands behind a line
 unfoldable pub mark_step : ℕ → ℕ → ℕ
 mark_step m c =
-    if nat_eq c 13 then (if nat_eq m 2 then 3 else 1) else (if nat_eq c 10 then (if nat_eq m 1 then 2 else (if nat_eq m 3 then 4 else 0)) else 0)
+    if nat_eq c 13 then (if nat_eq m 2 then 3 else 1)
+    else (if nat_eq c 10 then (if nat_eq m 1 then 2 else (if nat_eq m 3 then 4 else 0)) else 0)
 
 -- how many bytes of a line there are, and 0 outside of lines
 abbrev pub line_bytes : Place → ℕ
@@ -54,7 +62,8 @@ data_left (suc k) = Data (suc k)
 -- behind the digits of a line, n bytes with the next one
 unfoldable pub behind_digits : ℕ → ℕ → ℕ → Place
 behind_digits n k c =
-    if is_blank c then Blanks n k else (if nat_eq c 59 then Extension n k else (if nat_eq c 13 then LineCr n k else Refused ChunkSize))
+    if is_blank c then Blanks n k else (if nat_eq c 59 then Extension n k
+    else (if nat_eq c 13 then LineCr n k else Refused ChunkSize))
 
 -- in a trailer section with so many bytes, where so much of CR LF CR LF stands at the end
 abbrev pub trailer_at : ℕ → ℕ → Place
@@ -64,9 +73,12 @@ trailer_at n m = if nat_eq m 4 then Over else Trailer n m
 unfoldable pub step : Place → ℕ → Place
 step LineStart c = if is_hex c then Digits 1 (hex_of c) else Refused ChunkSize
 step (Digits n k) c =
-    if is_hex c then (if nat_lt n 16 then Digits (n + 1) (16 * k + hex_of c) else Refused ChunkSize) else behind_digits (n + 1) k c
-step (Blanks n k) c = if is_blank c then Blanks (n + 1) k else (if nat_eq c 59 then Extension (n + 1) k else Refused ChunkSize)
-step (Extension n k) c = if is_field c then Extension (n + 1) k else (if nat_eq c 13 then LineCr (n + 1) k else Refused ChunkExtension)
+    if is_hex c then (if nat_lt n 16 then Digits (n + 1) (16 * k + hex_of c) else Refused ChunkSize)
+    else behind_digits (n + 1) k c
+step (Blanks n k) c = if is_blank c then Blanks (n + 1) k
+    else (if nat_eq c 59 then Extension (n + 1) k else Refused ChunkSize)
+step (Extension n k) c = if is_field c then Extension (n + 1) k
+    else (if nat_eq c 13 then LineCr (n + 1) k else Refused ChunkExtension)
 step (LineCr n k) c = if nat_eq c 10 then behind_line k else Refused ChunkLineEnd
 step (Data left) c = data_left (left - 1)
 step DataEnd c = if nat_eq c 13 then DataCr else Refused ChunkEnd
@@ -123,7 +135,8 @@ line_within place = if nat_eq (line_bytes place) 1024 then Refused ChunkLineLong
 -- the place behind one more byte, with the limits of lines and trailer sections
 unfoldable pub limited : ℕ → Place → ℕ → Place
 limited max_trailer place c =
-    if is_last_of_trailer max_trailer place then Refused (TrailerTooLarge max_trailer) else line_within (step place c)
+    if is_last_of_trailer max_trailer place then Refused (TrailerTooLarge max_trailer)
+    else line_within (step place c)
 
 -- a reader: its limits, how many bytes it read, and its place
 pub record Reading : Type 0 where
@@ -138,11 +151,16 @@ is_last r = nat_eq (r.taken + 1) r.max_body
 
 -- the place behind one more byte
 abbrev pub next_place : Reading → ℕ → Place
-next_place r c = if is_last r then Refused (BodyTooLarge r.max_body) else limited r.max_trailer r.place c
+next_place r c = if is_last r then Refused (BodyTooLarge r.max_body)
+    else limited r.max_trailer r.place c
 
 -- behind one more byte; behind an end nothing is read
 unfoldable pub advance : Reading → ℕ → Reading
-advance r c = if has_ended r.place then r else record r { taken = r.taken + 1; place = next_place r c }
+advance r c = if has_ended r.place then r else record r {
+  taken = r.taken + 1;
+  place =
+      next_place r c;
+}
 
 -- the data that one more byte is, unless a limit refuses it
 unfoldable pub gives : Reading → ℕ → List ℕ
@@ -208,7 +226,12 @@ passed r n = record r { taken = r.taken + n; place = passed_at r.place n }
 
 -- before any byte
 abbrev pub fresh : ℕ → ℕ → Reading
-fresh max_body max_trailer = record { max_body = max_body; max_trailer = max_trailer; taken = 0; place = LineStart }
+fresh max_body max_trailer = record {
+  max_body = max_body;
+  max_trailer = max_trailer;
+  taken = 0;
+  place = LineStart;
+}
 
 -- A reader that read these bytes, and what it gave. Behind a refusal more bytes may stand.
 pub record Reads (max_body max_trailer : ℕ) (reading : Reading) (wire body : List ℕ) : Type 0 where

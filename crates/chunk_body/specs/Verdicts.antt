@@ -3,9 +3,13 @@
 -- and a trailer section have fewer bytes than their limits; all bytes of a body count.
 use Rattle.std.specs.Prelude.{◌≡◌, ◌≤◌, ◌<◌, ◌+◌, ◌⊎◌, ℕ, IsTrue, List, [], ◌∷◌, ◌++◌, length, take}
 use Rattle.std.specs.List.{AllByRecursion}
-use Rattle.chunk_body.specs.Coded.{is_blank, AreDigits, IsExtension, IsLine, Chunk, text, joined, IsChunk, EndsTrailer, IsCoded}
+use Rattle.chunk_body.specs.Coded.{is_blank, AreDigits, IsExtension, IsLine, Chunk, text, joined}
+use Rattle.chunk_body.specs.Coded.{IsChunk, EndsTrailer, IsCoded}
 use Rattle.byte_tables.specs.declared.refusal.Refusal.{Refusal}
-use Rattle.byte_tables.specs.declared.refusal.Refusal.TheVariants.{BodyTooLarge, ChunkSize, ChunkExtension, ChunkLineEnd, ChunkLineLong, ChunkEnd, TrailerTooLarge}
+use Rattle.byte_tables.specs.declared.refusal.Refusal.TheVariants.{BodyTooLarge, ChunkSize}
+use Rattle.byte_tables.specs.declared.refusal.Refusal.TheVariants.{ChunkExtension, ChunkLineEnd}
+use Rattle.byte_tables.specs.declared.refusal.Refusal.TheVariants.{ChunkLineLong, ChunkEnd}
+use Rattle.byte_tables.specs.declared.refusal.Refusal.TheVariants.{TrailerTooLarge}
 
 -- Parts of lines, of chunks and of ends.
 
@@ -93,7 +97,8 @@ IsPart line_end part got = (size : ℕ) × InLineEnd part size × (got ≡ [])
 IsPart in_bytes part got = (left : ℕ) × InData part got [] left × (0 < left)
 IsPart bytes_end part got = InData part got [] 0
 IsPart bytes_cr part got = InData part got (13 ∷ []) 0
-IsPart in_trailer part got = (trailer : List ℕ) × BehindLast part trailer × IsOpenTrailer trailer × (got ≡ [])
+IsPart in_trailer part got = (trailer : List ℕ) × BehindLast part trailer × IsOpenTrailer trailer
+    × (got ≡ [])
 
 -- What stands before the next byte: whole chunks and such a part. The body is the data so far.
 pub record Stands (place : Where) (wire body : List ℕ) : Type 0 where
@@ -146,11 +151,13 @@ pub record IsTrailerLimit (max : ℕ) (before : List ℕ) : Type 0 where
   pub full : length stands.is.0 + 1 ≡ max
 
 abbrev pub IsLimit : ℕ → ℕ → List ℕ → ℕ → Type 0
-IsLimit max_body max_trailer before byte = (length before + 1 ≡ max_body) ⊎ (IsLineLimit before byte ⊎ IsTrailerLimit max_trailer before)
+IsLimit max_body max_trailer before byte = (length before + 1 ≡ max_body)
+    ⊎ (IsLineLimit before byte ⊎ IsTrailerLimit max_trailer before)
 
 -- no byte reaches a limit
 pub record IsWithin (max_body max_trailer : ℕ) (wire : List ℕ) : Type 0 where
-  pub none : (before after : List ℕ) (byte : ℕ) → wire ≡ before ++ (byte ∷ after) → IsLimit max_body max_trailer before byte → ⊥
+  pub none : (before after : List ℕ) (byte : ℕ) → wire ≡ before ++ (byte ∷ after) →
+      IsLimit max_body max_trailer before byte → ⊥
 
 -- A body that is not all there: a proper front of a coded body, in which no byte reaches a limit.
 -- The body is the data so far.
@@ -167,14 +174,21 @@ pub record IsWhole (max_body max_trailer : ℕ) (wire body : List ℕ) : Type 0 
 
 -- Why the next byte is refused. The limit of the body goes before all else, that of the trailer
 -- section before a wrong byte, and a wrong byte before the limit of a line.
-pub data Because (max_body max_trailer : ℕ) (place : Where) (before : List ℕ) (byte : ℕ) : Refusal → Type 0 where
-  large : length before + 1 ≡ max_body → Because max_body max_trailer place before byte (BodyTooLarge max_body)
-  late : (length before + 1 ≡ max_body → ⊥) → IsTrailerLimit max_trailer before → Because max_body max_trailer place before byte (TrailerTooLarge max_trailer)
-  wrong : (length before + 1 ≡ max_body → ⊥) → (IsTrailerLimit max_trailer before → ⊥) → IsWrong (before ++ byte ∷ []) → Because max_body max_trailer place before byte (refusal_of place)
-  long : (length before + 1 ≡ max_body → ⊥) → (IsWrong (before ++ byte ∷ []) → ⊥) → IsLineLimit before byte → Because max_body max_trailer place before byte ChunkLineLong
+pub data Because (max_body max_trailer : ℕ) (place : Where) (before : List ℕ) (byte : ℕ) : Refusal →
+    Type 0 where
+  large : length before + 1 ≡ max_body → Because max_body max_trailer place before byte
+      (BodyTooLarge max_body)
+  late : (length before + 1 ≡ max_body → ⊥) → IsTrailerLimit max_trailer before →
+      Because max_body max_trailer place before byte (TrailerTooLarge max_trailer)
+  wrong : (length before + 1 ≡ max_body → ⊥) → (IsTrailerLimit max_trailer before → ⊥) →
+      IsWrong (before ++ byte ∷ []) → Because max_body max_trailer place before byte
+      (refusal_of place)
+  long : (length before + 1 ≡ max_body → ⊥) → (IsWrong (before ++ byte ∷ []) → ⊥) →
+      IsLineLimit before byte → Because max_body max_trailer place before byte ChunkLineLong
 
 -- A byte is refused: those before it are a body that is not all there, with this data.
-pub record IsRefused (max_body max_trailer : ℕ) (wire body : List ℕ) (refusal : Refusal) : Type 0 where
+pub record IsRefused (max_body max_trailer : ℕ) (wire body : List ℕ)
+    (refusal : Refusal) : Type 0 where
   pub before : List ℕ
   pub byte : ℕ
   pub after : List ℕ

@@ -1,9 +1,12 @@
 //! A reader of a body in the chunked coding.
-ghost use Rattle.std.specs.Prelude.{◌≡◌, ◌≤◌, ◌<◌, ◌+◌, ◌++◌, List, [], length, take, ℕ, false, None, vec_len, vec_capacity, IfSome};
-ghost use Rattle.chunk_body.specs.Reading.{IsSound, advance, reads, decodes, Reads, data_run as run_of, passed, has_ended};
+ghost use Rattle.std.specs.Prelude.{◌≡◌, ◌≤◌, ◌<◌, ◌+◌, ◌++◌, List, [], length, take, ℕ, false};
+ghost use Rattle.std.specs.Prelude.{None, vec_len, vec_capacity, IfSome};
+ghost use Rattle.chunk_body.specs.Reading.{IsSound, advance, reads, decodes, Reads};
+ghost use Rattle.chunk_body.specs.Reading.{data_run as run_of, passed, has_ended};
 ghost use Rattle.chunk_body.specs.Verdicts.{IsOpen};
 ghost use Rattle.chunk_body.specs.Pieces.{IsEnd, ReadsPiece};
-ghost use Rattle.chunk_body.specs.Answers.{IsNoMemory, IsFed, Gives, Leaves, lasting, Takes, most_of};
+ghost use Rattle.chunk_body.specs.Answers.{IsNoMemory, IsFed, Gives, Leaves, lasting, Takes};
+ghost use Rattle.chunk_body.specs.Answers.{most_of};
 
 use crate::place::Place;
 use crate::steps::next;
@@ -46,7 +49,13 @@ impl Model for Chunks {
 
     ghost Value = { Reading };
 
-    ghost view = { λ c. record { max_body = c.max_body; max_trailer = c.max_trailer; taken = c.taken; place = c.place } };
+    ghost view = { λ c. record {
+      max_body = c.max_body;
+      max_trailer = c.max_trailer;
+      taken =
+          c.taken;
+      place = c.place;
+    } };
 
     ghost invariant = { λ c. record {
       trailer : 1 ≤ c.max_trailer;
@@ -77,14 +86,18 @@ impl Chunks {
     /// Reads the next piece of the body, and appends the data to `room`.
     pub fn feed(&mut self, piece: &[u8], room: &mut Vec<u8>) -> Fed
         // What all bytes so far are, whatever came before this piece.
-        ensures fed { Gives room.old.items room.new.items (λ got. IsFed result piece.now got self.old self.new) }
+        ensures fed { Gives room.old.items room.new.items
+            (λ got. IsFed result piece.now got self.old self.new) }
         // Behind the end and behind a refusal every call answers so, and changes nothing.
-        ensures lasting { IfSome (lasting self.old) (λ f. (result ≡ f) × (self.new ≡ self.old) × (room.new.items ≡ room.old.items)) }
+        ensures lasting { IfSome (lasting self.old) (λ f. (result ≡ f) × (self.new ≡ self.old)
+            × (room.new.items ≡ room.old.items)) }
         ensures leaves { Leaves result self.new }
         ensures takes { Takes result (length piece.now) (lasting self.old) }
-        ensures grows { length room.new.items ≤ length room.old.items + most_of result (length piece.now) }
+        ensures grows { length room.new.items ≤ length room.old.items
+            + most_of result (length piece.now) }
         // Want of memory changes nothing.
-        ensures memory { IsNoMemory result → (self.new ≡ self.old) × (room.new.items ≡ room.old.items) }
+        ensures memory { IsNoMemory result → (self.new ≡ self.old)
+            × (room.new.items ≡ room.old.items) }
     {
         self.read_piece(piece, room)
     }
@@ -178,8 +191,10 @@ impl Chunks {
 
     #[tactic(auto, unfolding(crate::specs::Answers::lasting))]
     fn read_piece(&mut self, piece: &[u8], room: &mut Vec<u8>) -> Fed
-        ensures read { (got : List ℕ) × (room.new.items ≡ room.old.items ++ got) × ReadsPiece result piece.now self.old self.new got }
-        ensures lasting { IfSome (lasting self.old) (λ f. (result ≡ f) × (self.new ≡ self.old) × (room.new.items ≡ room.old.items)) }
+        ensures read { (got : List ℕ) × (room.new.items ≡ room.old.items ++ got)
+            × ReadsPiece result piece.now self.old self.new got }
+        ensures lasting { IfSome (lasting self.old) (λ f. (result ≡ f) × (self.new ≡ self.old)
+            × (room.new.items ≡ room.old.items)) }
         ensures leaves { Leaves result self.new }
         ensures takes { Takes result (length piece.now) (lasting self.old) }
     {

@@ -2,7 +2,8 @@
 use byte_tables::Refusal;
 
 /// Where the next byte stands. The first number of a place in a line or in a trailer section is how
-/// many bytes of it there are; the second one of a place in a line is the size that its digits spell.
+/// many bytes of it there are; the second one of a place in a line is the size that its digits
+/// spell.
 #[derive(Clone, Copy, Debug, PartialEq, Eq, Drop)]
 pub enum Place {
     LineStart,

@@ -1,6 +1,9 @@
 //! One byte, at each place.
-ghost use Rattle.std.specs.Prelude.{◌≡◌, ◌≤◌, ◌<◌, ◌+◌, ◌*◌, ◌^◌, IsTrue, nat_lt, false};
-ghost use Rattle.chunk_body.specs.Reading.{step, limited, is_last_of_trailer, behind_line as line_end, data_left as left_of, behind_digits as digits_end, trailer_at, IsSound, has_ended, line_bytes, mark_step};
+ghost use Rattle.std.specs.Prelude.{◌≡◌, ◌≤◌, ◌<◌, ◌+◌, ◌*◌, ◌^◌, false};
+ghost use Rattle.chunk_body.specs.Reading.{step, limited, is_last_of_trailer};
+ghost use Rattle.chunk_body.specs.Reading.{behind_line as line_end, data_left as left_of};
+ghost use Rattle.chunk_body.specs.Reading.{behind_digits as digits_end, trailer_at, IsSound};
+ghost use Rattle.chunk_body.specs.Reading.{has_ended, line_bytes, mark_step};
 
 use crate::bytes::{hex_value, is_blank};
 use crate::place::Place;

@@ -1,33 +1,7 @@
 -- The first place of CR LF CR LF is where the first head ends.
-use Rattle.std.proofs.Common.{
-  ◌≡◌,
-  ◌≤◌,
-  ◌+◌,
-  ◌-◌,
-  ℕ,
-  zero,
-  suc,
-  Bool,
-  true,
-  false,
-  List,
-  [],
-  ◌∷◌,
-  length,
-  take,
-  drop,
-  None,
-  Some,
-  refl,
-  ap,
-  sym,
-  subst,
-  ◌∙◌,
-  cond,
-  arith,
-  inl,
-  inr,
-}
+use Rattle.std.proofs.Common.{◌≡◌, ◌≤◌, ◌+◌, ◌-◌, ℕ, zero, suc, Bool, true, false, List, [], ◌∷◌}
+use Rattle.std.proofs.Common.{length, take, drop, None, Some, refl, ap, sym, subst, ◌∙◌, cond}
+use Rattle.std.proofs.Common.{arith, inl, inr}
 use Rattle.std.specs.Prelude.{Option, option_map}
 use Rattle.std.specs.Bool.{Decides}
 use Rattle.std.specs.Str.{bytes_eq}
@@ -38,14 +12,8 @@ use Rattle.memchr.specs.Find.{OccursAt, FindsNeedle}
 use Rattle.memchr.proofs.lemmas.MatchLemmas.{OccursAt-part, OccursAt-from_part}
 use Rattle.head_grammar.specs.Ends.{head_end, head_mark}
 use Rattle.byte_tables.proofs.Cuts.{rest_is}
-use Rattle.head_grammar.proofs.Occurs.{
-  occurs_before,
-  finds_none,
-  finds_some,
-  occurs_front,
-  occurs_drop,
-  occurs_whole,
-}
+use Rattle.head_grammar.proofs.Occurs.{occurs_before, finds_none, finds_some, occurs_front}
+use Rattle.head_grammar.proofs.Occurs.{occurs_drop, occurs_whole}
 
 -- the four bytes at the front are the mark
 at_front : (b : ℕ) (bs : List ℕ) → take 4 (b ∷ bs) ≡ head_mark → OccursAt (b ∷ bs) head_mark 0

@@ -1,20 +1,6 @@
 -- Fields that are combined one by one.
-use Rattle.std.proofs.Common.{
-  ◌≡◌,
-  ℕ,
-  Bool,
-  true,
-  false,
-  List,
-  [],
-  ◌∷◌,
-  ◌++◌,
-  refl,
-  ap,
-  sym,
-  ◌∙◌,
-  cond,
-}
+use Rattle.std.proofs.Common.{◌≡◌, ℕ, Bool, true, false, List, [], ◌∷◌, ◌++◌, refl, ap, sym, ◌∙◌}
+use Rattle.std.proofs.Common.{cond}
 use Rattle.std.specs.Prelude.{not, ◌&&◌, ◌||◌, filter, codes}
 use Rattle.std.specs.List.{list_any}
 use Rattle.std.specs.Str.{bytes_eq}
@@ -24,13 +10,8 @@ use Rattle.std.proofs.lemmas.List.Elements.{filter-append}
 use Rattle.std.proofs.lemmas.Grind.{flat_map-append}
 use Rattle.head_grammar.specs.declared.types.Field.{Field}
 use Rattle.head_grammar.specs.Combining.{with_value, added}
-use Rattle.head_grammar.specs.FieldLines.{
-  has_name,
-  further_values,
-  with_further,
-  combined,
-  names_differ,
-}
+use Rattle.head_grammar.specs.FieldLines.{has_name, further_values, with_further, combined}
+use Rattle.head_grammar.specs.FieldLines.{names_differ}
 use Rattle.head_grammar.proofs.Names.{eq_sym}
 
 neither : (s t : Bool) → (s || t) ≡ false → (s ≡ false) × (t ≡ false)

@@ -1,29 +1,6 @@
 -- Where the fields of each name stand, with one field more.
-use Rattle.std.proofs.Common.{
-  ◌≡◌,
-  ◌+◌,
-  ℕ,
-  suc,
-  zero,
-  Bool,
-  true,
-  false,
-  List,
-  [],
-  ◌∷◌,
-  ◌++◌,
-  length,
-  set,
-  get_or,
-  None,
-  Some,
-  refl,
-  ap,
-  sym,
-  ◌∙◌,
-  cond,
-  arith,
-}
+use Rattle.std.proofs.Common.{◌≡◌, ◌+◌, ℕ, suc, zero, Bool, true, false, List, [], ◌∷◌, ◌++◌}
+use Rattle.std.proofs.Common.{length, set, get_or, None, Some, refl, ap, sym, ◌∙◌, cond, arith}
 use Rattle.std.specs.Prelude.{Option, option_map, position}
 use Rattle.std.specs.List.{position_from}
 use Rattle.std.specs.Borrow.{Bor}

@@ -1,27 +1,6 @@
 -- Lines and what continues them, as they are joined one by one.
-use Rattle.std.proofs.Common.{
-  ◌≡◌,
-  ℕ,
-  zero,
-  suc,
-  Bool,
-  true,
-  false,
-  List,
-  [],
-  ◌∷◌,
-  ◌++◌,
-  length,
-  take,
-  None,
-  Some,
-  refl,
-  ap,
-  sym,
-  ◌∙◌,
-  cond,
-  arith,
-}
+use Rattle.std.proofs.Common.{◌≡◌, ℕ, zero, suc, Bool, true, false, List, [], ◌∷◌, ◌++◌, length}
+use Rattle.std.proofs.Common.{take, None, Some, refl, ap, sym, ◌∙◌, cond, arith}
 use Rattle.std.specs.Prelude.{Option, Result, Err, not, nat_lt, ◌&&◌, ◌==◌, position}
 use Rattle.std.specs.List.{list_all}
 use Rattle.std.proofs.lemmas.Bool.Decides.{nat_tests}
@@ -31,18 +10,9 @@ use Rattle.byte_tables.specs.declared.refusal.Refusal.{Refusal}
 use Rattle.byte_tables.specs.declared.refusal.Refusal.TheVariants.{FieldLine}
 use Rattle.head_grammar.specs.declared.types.Field.{Field}
 use Rattle.head_grammar.specs.Classes.{is_white_space, without_space_in_front}
-use Rattle.head_grammar.specs.FieldLines.{
-  continues,
-  first_continues,
-  with_one_space,
-  onto_lines,
-  unfolded,
-  is_name,
-  cut_at,
-  field_line,
-  onto_fields,
-  field_lines,
-}
+use Rattle.head_grammar.specs.FieldLines.{continues, first_continues, with_one_space, onto_lines}
+use Rattle.head_grammar.specs.FieldLines.{unfolded, is_name, cut_at, field_line, onto_fields}
+use Rattle.head_grammar.specs.FieldLines.{field_lines}
 
 pub unfolded_cons : (line : List ℕ) (rest : List (List ℕ)) → unfolded (line ∷ rest)
     ≡ onto_lines (first_continues rest) (with_one_space line) (unfolded rest)

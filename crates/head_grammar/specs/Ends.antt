@@ -1,17 +1,6 @@
 -- Where a request head ends (RFC 9112, section 2.1).
-use Rattle.std.specs.Prelude.{
-  ℕ,
-  suc,
-  List,
-  [],
-  ◌∷◌,
-  take,
-  Option,
-  None,
-  Some,
-  option_map,
-  if◌then◌else◌,
-}
+use Rattle.std.specs.Prelude.{ℕ, suc, List, [], ◌∷◌, take, Option, None, Some, option_map}
+use Rattle.std.specs.Prelude.{if◌then◌else◌}
 use Rattle.std.specs.Str.{bytes_eq}
 
 -- CR LF CR LF, the end of the last line and an empty line

@@ -1,26 +1,6 @@
 -- How long a body is, and what a head says of the connection (RFC 9112, sections 6.3 and 9.3).
-use Rattle.std.specs.Prelude.{
-  ℕ,
-  Bool,
-  true,
-  false,
-  not,
-  ◌&&◌,
-  ◌||◌,
-  ◌==◌,
-  nat_le,
-  nat_lt,
-  List,
-  length,
-  codes,
-  Option,
-  None,
-  Some,
-  Result,
-  Ok,
-  Err,
-  if◌then◌else◌,
-}
+use Rattle.std.specs.Prelude.{ℕ, Bool, true, false, not, ◌&&◌, ◌||◌, ◌==◌, nat_le, nat_lt, List}
+use Rattle.std.specs.Prelude.{length, codes, Option, None, Some, Result, Ok, Err, if◌then◌else◌}
 use Rattle.std.specs.List.{list_all, list_any, slice_split}
 use Rattle.std.specs.Option.{is_some}
 use Rattle.std.specs.Str.{str_eq_ignore_ascii_case}

@@ -1,23 +1,6 @@
 -- What a request line says (RFC 9112, section 3).
-use Rattle.std.specs.Prelude.{
-  ℕ,
-  Bool,
-  not,
-  ◌&&◌,
-  ◌||◌,
-  ◌==◌,
-  List,
-  [],
-  ◌∷◌,
-  length,
-  take,
-  codes,
-  slice_index,
-  Result,
-  Ok,
-  Err,
-  if◌then◌else◌,
-}
+use Rattle.std.specs.Prelude.{ℕ, Bool, not, ◌&&◌, ◌||◌, ◌==◌, List, [], ◌∷◌, length, take, codes}
+use Rattle.std.specs.Prelude.{slice_index, Result, Ok, Err, if◌then◌else◌}
 use Rattle.std.specs.List.{list_all, slice_split}
 use Rattle.std.specs.Str.{bytes_eq}
 use Rattle.byte_tables.specs.Classes.{is_between, is_digit, is_target, is_token}

@@ -1,11 +1,5 @@
-use Rattle.head_grammar.proofs.EndLaws.{
-  head_end-nil,
-  head_end-within,
-  head_end-four,
-  head_end-cut,
-  head_end-still,
-  head_end-later,
-}
+use Rattle.head_grammar.proofs.EndLaws.{head_end-nil, head_end-within, head_end-four, head_end-cut}
+use Rattle.head_grammar.proofs.EndLaws.{head_end-still, head_end-later}
 use Rattle.head_grammar.proofs.laws.one_end.Goals as goal
 
 pub returns : goal.returns

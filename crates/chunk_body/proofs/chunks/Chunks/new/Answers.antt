@@ -8,4 +8,9 @@ pub returns : goal.returns
 unfolding lasting
 returns c =
     let r = starts c.args.max_body c.args.max_trailer in
-    record { reads = r; part = opens c.args.max_body c.args.max_trailer (fresh c.args.max_body c.args.max_trailer) [] [] r refl; going = refl }
+    record {
+      reads = r;
+      part = opens c.args.max_body c.args.max_trailer
+          (fresh c.args.max_body c.args.max_trailer) [] [] r refl;
+      going = refl;
+    }
