@@ -1,3 +1,4 @@
+mod AskedLemmas
 mod BodyLemmas
 mod BodyMoves
 mod Fronts

@@ -1,5 +1,5 @@
 -- A stream by all the bytes that it was fed.
-use Rattle.std.specs.Prelude.{◌≡◌, ℕ, List, Bool, false, IsTrue}
+use Rattle.std.specs.Prelude.{◌≡◌, ℕ, List, Bool, false}
 use Rattle.request_stream.specs.Reading.{ArePositive, IsSound, HasRead, is_failed}
 use Rattle.request_stream.specs.declared.state.State.{State}
 use Rattle.request_stream.specs.declared.types.Limits.{Limits}
@@ -16,7 +16,8 @@ pub record Story : Type 0 where
   pub held : ℕ
 
 -- what holds of each stream
-pub record Keeps {S : Type 0} (tells : Bool) (limits : Limits) (state : State S) (fed : List (ℕ × ℕ)) : Type 0 where
+pub record Keeps {S : Type 0} (tells : Bool) (limits : Limits) (state : State S)
+    (fed : List (ℕ × ℕ)) : Type 0 where
   pub positive : ArePositive limits
   pub sound : is_failed state ≡ false → IsSound limits state
-  pub read : IsTrue tells → is_failed state ≡ false → HasRead limits state fed
+  pub read : is_failed state ≡ false → HasRead tells limits state fed

@@ -1,6 +1,8 @@
 -- What an input asks for (RFC 9112, sections 2.1, 6.3 and 9.3). An input is all bytes that came on
 -- a connection, each with its moment.
-use Rattle.std.specs.Prelude.{true, ◌-◌, ◌+◌, ℕ, zero, suc, Bool, false, List, [], ◌∷◌, ◌++◌, length, take, drop, map, Option, None, Some, if◌then◌else◌, nat_le, slice_index}
+use Rattle.std.specs.Prelude.{true, ◌-◌, ◌+◌, ℕ, zero, suc, Bool, false, List, [], ◌∷◌, ◌++◌}
+use Rattle.std.specs.Prelude.{length, take, drop, map, Option, None, Some, if◌then◌else◌, nat_le}
+use Rattle.std.specs.Prelude.{slice_index}
 use Rattle.byte_tables.specs.declared.refusal.Refusal.{Refusal}
 use Rattle.byte_tables.specs.declared.refusal.Refusal.TheVariants.{HeadTooLarge}
 use Rattle.chunk_body.specs.Bodies.{Body, whole, wrong, partial, coded}
@@ -38,11 +40,22 @@ closing continued = false
 closing (refused r) = true
 closing (request head body moment) = head.closes
 
+-- The limits of heads and of bodies, each where it is asked for.
+
+-- what a whole head says
+abbrev pub verdict_by : Limits → List ℕ → Parsed
+verdict_by limits head = verdict limits.max_body head
+
+-- the body in the chunked coding at the front of some bytes
+abbrev pub coded_by : Limits → List ℕ → Body
+coded_by limits bytes = coded limits.max_body limits.max_head bytes
+
 -- the body of a head at the front of the bytes behind it (section 6.3)
 unfoldable pub body_of : Limits → Framing → List ℕ → Body
 body_of limits Empty bytes = whole 0 []
-body_of limits (Fixed n) bytes = if nat_le n (length bytes) then whole n (take n bytes) else partial bytes
-body_of limits Chunked bytes = coded limits.max_body limits.max_head bytes
+body_of limits (Fixed n) bytes = if nat_le n (length bytes) then whole n (take n bytes)
+    else partial bytes
+body_of limits Chunked bytes = coded_by limits bytes
 
 -- What stands at the front of an input.
 pub data Front : Type 0 where
@@ -92,7 +105,7 @@ front_by_head limits x n (Good head) =
 
 -- by where the first head ends
 abbrev pub front_by_end : Limits → List (ℕ × ℕ) → Option ℕ → Front
-front_by_end limits x (Some n) = front_by_head limits x n (verdict limits.max_body (take n (bytes_of x)))
+front_by_end limits x (Some n) = front_by_head limits x n (verdict_by limits (take n (bytes_of x)))
 front_by_end limits x None =
     if nat_le limits.max_head (length x)
     then ends (too_large limits (when x (limits.max_head - 1)) ∷ []) else waits []

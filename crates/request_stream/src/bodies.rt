@@ -1,8 +1,9 @@
 //! A piece goes on with a body.
-ghost use Rattle.std.specs.Prelude.{◌≡◌, ◌≤◌, ◌<◌, ◌+◌, ◌++◌, ◌∷◌, [], ℕ, length, take, map, IfOk, IfErr, OnOk, OnErr, IsTrue};
-ghost use Rattle.outside.specs.Causes.{Rose, raised};
+ghost use Rattle.std.specs.Prelude.{◌≡◌, ◌≤◌, ◌<◌, ◌+◌, ◌++◌, ◌∷◌, [], length, take, map, IfOk};
+ghost use Rattle.std.specs.Prelude.{IfErr, OnOk};
 ghost use Rattle.request_stream.specs.Asks.{asks, sizes, IsCaused};
-ghost use Rattle.request_stream.specs.Reading.{Reads, Shuts, IsSound, IsSoundFixed, IsSoundCoded, ArePositive};
+ghost use Rattle.request_stream.specs.Reading.{Reads, Shuts, IsSound, IsSoundFixed, IsSoundCoded};
+ghost use Rattle.request_stream.specs.Reading.{ArePositive};
 ghost use Rattle.request_stream.specs.Room.{Holds};
 ghost use Rattle.request_stream.specs.Units.{stamped, refused_body};
 ghost use Rattle.spill_buffer.specs.Buffer.{IsToldAs};
@@ -47,9 +48,13 @@ pub(crate) fn fill<S: Spill + Drop>(
     requires sound { IsSoundFixed part }
     ensures taken { IfOk result (λ s. (0 < s.taken) × (s.taken ≤ length piece.now)) }
     ensures sound { IfOk result (λ s. IsSound limits.now s.state) }
-    ensures holds { IfOk result (λ s. Holds (State.Filling part) s.state s.taken given.old.items given.new.items) }
-    ensures shuts { IfOk result (λ s. Shuts (State.Filling part) s.state (map asks given.old.items) (map asks given.new.items)) }
-    ensures reads { IsTrue S.tells → IfOk result (λ s. Reads limits.now (State.Filling part) s.state (stamped now (take s.taken piece.now)) (map asks given.old.items) (map asks given.new.items)) }
+    ensures holds { IfOk result (λ s. Holds (State.Filling part) s.state s.taken given.old.items
+        given.new.items) }
+    ensures shuts { IfOk result (λ s. Shuts (State.Filling part) s.state (map asks given.old.items)
+        (map asks given.new.items)) }
+    ensures reads { IfOk result (λ s. Reads S.tells limits.now (State.Filling part) s.state
+        (stamped now (take s.taken piece.now)) (map asks given.old.items)
+        (map asks given.new.items)) }
     ensures cause { IfErr result (λ f. IsCaused S.faults f) }
 {
     let _ = limits;
@@ -73,7 +78,8 @@ fn refuse_body<S: Spill + Drop>(
     given: &mut Vec<Unit<S>>,
 ) -> Result<State<S>, AllocError>
     ensures over { IfOk result (λ s. s ≡ State.Over) }
-    ensures given { IfOk result (λ s. map asks given.new.items ≡ map asks given.old.items ++ refused_body head.now refusal now ∷ []) }
+    ensures given { IfOk result (λ s. map asks given.new.items
+        ≡ map asks given.old.items ++ refused_body head.now refusal now ∷ []) }
     ensures sizes { OnOk result (sizes given.new.items ≡ sizes given.old.items) }
 {
     let bodyless = head.method.as_slice() == b"HEAD".as_slice();
@@ -94,9 +100,13 @@ pub(crate) fn decode<S: Spill + Drop>(
     requires sound { IsSoundCoded part }
     ensures taken { IfOk result (λ s. (0 < s.taken) × (s.taken ≤ length piece.now)) }
     ensures sound { IfOk result (λ s. IsSound limits.now s.state) }
-    ensures holds { IfOk result (λ s. Holds (State.Decoding part) s.state s.taken given.old.items given.new.items) }
-    ensures shuts { IfOk result (λ s. Shuts (State.Decoding part) s.state (map asks given.old.items) (map asks given.new.items)) }
-    ensures reads { IsTrue S.tells → IfOk result (λ s. Reads limits.now (State.Decoding part) s.state (stamped now (take s.taken piece.now)) (map asks given.old.items) (map asks given.new.items)) }
+    ensures holds { IfOk result (λ s. Holds (State.Decoding part) s.state s.taken given.old.items
+        given.new.items) }
+    ensures shuts { IfOk result (λ s. Shuts (State.Decoding part) s.state (map asks given.old.items)
+        (map asks given.new.items)) }
+    ensures reads { IfOk result (λ s. Reads S.tells limits.now (State.Decoding part) s.state
+        (stamped now (take s.taken piece.now)) (map asks given.old.items)
+        (map asks given.new.items)) }
     ensures cause { IfErr result (λ f. IsCaused S.faults f) }
 {
     let _ = limits;

@@ -1,10 +1,12 @@
 //! A piece goes on with a head.
-ghost use Rattle.std.specs.Prelude.{◌≡◌, ◌≤◌, ◌<◌, ◌-◌, ◌+◌, ◌^◌, ◌++◌, ◌∷◌, [], ℕ, None, Some, length, take, map, IfOk, IfErr, IfSome, OnOk, OnErr};
+ghost use Rattle.std.specs.Prelude.{◌≡◌, ◌≤◌, ◌<◌, ◌-◌, ◌+◌, ◌^◌, [], None, Some, length, take};
+ghost use Rattle.std.specs.Prelude.{map, IfOk, IfErr};
 ghost use Rattle.head_grammar.specs.Ends.{head_end as end_of};
-ghost use Rattle.head_grammar.specs.Verdict.{verdict};
 ghost use Rattle.request_stream.specs.Asks.{asks, sizes, IsCaused};
-ghost use Rattle.request_stream.specs.Reading.{IsSound, IsSoundHead, ArePositive, OpensBy, LeadsBy, EndsBy, KeepsHead, SeeksOn};
+ghost use Rattle.request_stream.specs.Reading.{IsSound, IsSoundHead, ArePositive, OpensBy, LeadsBy};
+ghost use Rattle.request_stream.specs.Reading.{EndsBy, KeepsHead, SeeksOn};
 ghost use Rattle.request_stream.specs.Room.{Holds, held_of};
+ghost use Rattle.request_stream.specs.Units.{verdict_by};
 
 use crate::state::{CodedPart, FixedPart, State, Step};
 use crate::types::{Limits, StreamFault, Unit};
@@ -26,9 +28,11 @@ fn begin<S: Spill + Drop, P: Spills<Spill = S>>(
 ) -> Result<State<S>, StreamFault<S>>
     requires positive { ArePositive limits.now }
     requires fits { head.size < 2 ^ 63 }
-    ensures opens { IfOk result (λ s. OpensBy head.framing limits.now head now s (map asks given.old.items) (map asks given.new.items)) }
+    ensures opens { IfOk result (λ s. OpensBy head.framing limits.now head now s
+        (map asks given.old.items) (map asks given.new.items)) }
     ensures sound { IfOk result (λ s. IsSound limits.now s) }
-    ensures holds { IfOk result (λ s. held_of s + sizes given.new.items ≡ sizes given.old.items + head.size) }
+    ensures holds { IfOk result (λ s. held_of s + sizes given.new.items
+        ≡ sizes given.old.items + head.size) }
     ensures cause { IfErr result (λ f. IsCaused S.faults f) }
     ensures spills { P.faults spills.new ≡ P.faults spills.old }
 {
@@ -62,9 +66,11 @@ fn lead<S: Spill + Drop, P: Spills<Spill = S>>(
 ) -> Result<State<S>, StreamFault<S>>
     requires positive { ArePositive limits.now }
     requires whole { end_of bytes.now ≡ Some (length bytes.now) }
-    ensures leads { IfOk result (λ s. LeadsBy (verdict limits.now.max_body bytes.now) limits.now now s (map asks given.old.items) (map asks given.new.items)) }
+    ensures leads { IfOk result (λ s. LeadsBy (verdict_by limits.now bytes.now) limits.now now s
+        (map asks given.old.items) (map asks given.new.items)) }
     ensures sound { IfOk result (λ s. IsSound limits.now s) }
-    ensures holds { IfOk result (λ s. held_of s + sizes given.new.items ≤ sizes given.old.items + length bytes.now) }
+    ensures holds { IfOk result (λ s. held_of s + sizes given.new.items ≤ sizes given.old.items
+        + length bytes.now) }
     ensures cause { IfErr result (λ f. IsCaused S.faults f) }
     ensures spills { P.faults spills.new ≡ P.faults spills.old }
 {
@@ -100,9 +106,11 @@ fn keep<S: Spill + Drop>(
     requires positive { ArePositive limits.now }
     requires none { end_of (take (limits.now.max_head - 1) bytes.items) ≡ None }
     requires most { length bytes.items ≤ limits.now.max_head }
-    ensures keeps { IfOk result (λ s. KeepsHead limits.now bytes.items now s (map asks given.old.items) (map asks given.new.items)) }
+    ensures keeps { IfOk result (λ s. KeepsHead limits.now bytes.items now s
+        (map asks given.old.items) (map asks given.new.items)) }
     ensures sound { IfOk result (λ s. IsSound limits.now s) }
-    ensures holds { IfOk result (λ s. held_of s + sizes given.new.items ≤ sizes given.old.items + length bytes.items) }
+    ensures holds { IfOk result (λ s. held_of s + sizes given.new.items ≤ sizes given.old.items
+        + length bytes.items) }
     ensures cause { IfErr result (λ f. IsCaused S.faults f) }
 {
     if bytes.len() as u64 == limits.max_head {
@@ -123,10 +131,13 @@ fn seek_first<S: Spill + Drop, P: Spills<Spill = S>>(
 ) -> Result<Step<S>, StreamFault<S>>
     requires some { 0 < length piece.now }
     requires positive { ArePositive limits.now }
+    requires none { end_of [] ≡ None }
     ensures taken { IfOk result (λ s. (0 < s.taken) × (s.taken ≤ length piece.now)) }
     ensures sound { IfOk result (λ s. IsSound limits.now s.state) }
-    ensures holds { IfOk result (λ s. held_of s.state + sizes given.new.items ≤ sizes given.old.items + s.taken) }
-    ensures seeks { IfOk result (λ s. SeeksOn limits.now [] (take s.taken piece.now) now s.state (map asks given.old.items) (map asks given.new.items)) }
+    ensures holds { IfOk result (λ s. held_of s.state + sizes given.new.items
+        ≤ sizes given.old.items + s.taken) }
+    ensures seeks { IfOk result (λ s. SeeksOn limits.now [] (take s.taken piece.now) now s.state
+        (map asks given.old.items) (map asks given.new.items)) }
     ensures cause { IfErr result (λ f. IsCaused S.faults f) }
     ensures spills { P.faults spills.new ≡ P.faults spills.old }
 {
@@ -155,8 +166,11 @@ pub(crate) fn seek<S: Spill + Drop, P: Spills<Spill = S>>(
     requires sound { IsSoundHead limits.now held.items }
     ensures taken { IfOk result (λ s. (0 < s.taken) × (s.taken ≤ length piece.now)) }
     ensures sound { IfOk result (λ s. IsSound limits.now s.state) }
-    ensures holds { IfOk result (λ s. Holds (State.Seeking held) s.state s.taken given.old.items given.new.items) }
-    ensures seeks { IfOk result (λ s. SeeksOn limits.now held.items (take s.taken piece.now) now s.state (map asks given.old.items) (map asks given.new.items)) }
+    ensures holds { IfOk result (λ s. Holds (State.Seeking held) s.state s.taken given.old.items
+        given.new.items) }
+    ensures seeks { IfOk result (λ s. SeeksOn limits.now held.items
+        (take s.taken piece.now) now s.state (map asks given.old.items)
+        (map asks given.new.items)) }
     ensures cause { IfErr result (λ f. IsCaused S.faults f) }
     ensures spills { P.faults spills.new ≡ P.faults spills.old }
 {

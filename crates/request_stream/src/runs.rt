@@ -1,5 +1,6 @@
 //! A piece from its first byte to its last.
-ghost use Rattle.std.specs.Prelude.{◌≡◌, ◌≤◌, ◌<◌, ◌+◌, [], ℕ, true, false, length, take, map, IfOk, IfErr, OnOk, OnErr, IsTrue};
+ghost use Rattle.std.specs.Prelude.{◌≡◌, ◌≤◌, ◌<◌, ◌+◌, [], true, false, length, take, map, IfOk};
+ghost use Rattle.std.specs.Prelude.{IfErr, OnOk, OnErr};
 ghost use Rattle.request_stream.specs.Asks.{asks, sizes, IsCaused};
 ghost use Rattle.request_stream.specs.Reading.{Reads, Shuts, IsSound, ArePositive, is_failed};
 ghost use Rattle.request_stream.specs.Room.{Holds, held_of};
@@ -29,8 +30,11 @@ fn advance<S: Spill + Drop, P: Spills<Spill = S>>(
     ensures taken { IfOk result (λ s. (0 < s.taken) × (s.taken ≤ length piece.now)) }
     ensures sound { IfOk result (λ s. IsSound limits.now s.state) }
     ensures holds { IfOk result (λ s. Holds state s.state s.taken given.old.items given.new.items) }
-    ensures shuts { IfOk result (λ s. Shuts state s.state (map asks given.old.items) (map asks given.new.items)) }
-    ensures reads { IsTrue S.tells → IfOk result (λ s. Reads limits.now state s.state (stamped now (take s.taken piece.now)) (map asks given.old.items) (map asks given.new.items)) }
+    ensures shuts { IfOk result (λ s. Shuts state s.state (map asks given.old.items)
+        (map asks given.new.items)) }
+    ensures reads { IfOk result (λ s. Reads S.tells limits.now state s.state
+        (stamped now (take s.taken piece.now)) (map asks given.old.items)
+        (map asks given.new.items)) }
     ensures cause { IfErr result (λ f. IsCaused S.faults f) }
     ensures spills { P.faults spills.new ≡ P.faults spills.old }
 {
@@ -59,9 +63,12 @@ pub(crate) fn run<S: Spill + Drop, P: Spills<Spill = S>>(
     requires positive { ArePositive limits.now }
     requires sound { IsSound limits.now state }
     ensures sound { IfOk result (λ s. IsSound limits.now s) }
-    ensures holds { IfOk result (λ s. Holds state s (length piece.now) given.old.items given.new.items) }
-    ensures shuts { IfOk result (λ s. Shuts state s (map asks given.old.items) (map asks given.new.items)) }
-    ensures reads { IsTrue S.tells → IfOk result (λ s. Reads limits.now state s (stamped now piece.now) (map asks given.old.items) (map asks given.new.items)) }
+    ensures holds { IfOk result (λ s. Holds state s
+        (length piece.now) given.old.items given.new.items) }
+    ensures shuts { IfOk result (λ s. Shuts state s (map asks given.old.items)
+        (map asks given.new.items)) }
+    ensures reads { IfOk result (λ s. Reads S.tells limits.now state s (stamped now piece.now)
+        (map asks given.old.items) (map asks given.new.items)) }
     ensures cause { IfErr result (λ f. IsCaused S.faults f) }
     ensures spills { P.faults spills.new ≡ P.faults spills.old }
 {
@@ -87,10 +94,14 @@ pub(crate) fn read<S: Spill + Drop, P: Spills<Spill = S>>(
     requires positive { ArePositive limits.now }
     requires sound { is_failed state.old ≡ false → IsSound limits.now state.old }
     ensures sound { is_failed state.new ≡ false → IsSound limits.now state.new }
-    ensures shuts { IfOk result (λ us. is_failed state.old ≡ false → Shuts state.old state.new [] (map asks us.items)) }
-    ensures reads { IsTrue S.tells → IfOk result (λ us. is_failed state.old ≡ false → Reads limits.now state.old state.new (stamped now piece.now) [] (map asks us.items)) }
+    ensures shuts { IfOk result (λ us. is_failed state.old ≡ false →
+        Shuts state.old state.new [] (map asks us.items)) }
+    ensures reads { IfOk result (λ us. is_failed state.old ≡ false →
+        Reads S.tells limits.now state.old state.new (stamped now piece.now) []
+        (map asks us.items)) }
     ensures none { IfOk result (λ us. is_failed state.old ≡ true → us.items ≡ []) }
-    ensures holds { IfOk result (λ us. held_of state.new + sizes us.items ≤ held_of state.old + length piece.now) }
+    ensures holds { IfOk result (λ us. held_of state.new + sizes us.items ≤ held_of state.old
+        + length piece.now) }
     ensures kept { OnOk result (is_failed state.new ≡ is_failed state.old) }
     ensures fault { OnErr result (is_failed state.new ≡ true) }
     ensures cause { IfErr result (λ f. IsCaused S.faults f) }

@@ -1,10 +1,12 @@
 //! Pieces in, units out.
-ghost use Rattle.std.specs.Prelude.{◌≡◌, ◌≤◌, ◌<◌, ◌+◌, ◌||◌, ◌++◌, [], ℕ, true, false, length, map, IfOk, IfErr, OnErr, OnOk, IsTrue};
+ghost use Rattle.std.specs.Prelude.{◌≡◌, ◌≤◌, ◌<◌, ◌+◌, ◌||◌, ◌++◌, [], true, false, length, map};
+ghost use Rattle.std.specs.Prelude.{IfOk, IfErr, OnErr, OnOk};
 ghost use Rattle.std.specs.List.{list_any};
-ghost use Rattle.request_stream.specs.Asks.{asks, sizes, IsCaused};
+ghost use Rattle.request_stream.specs.Asks.{asks, sizes, IsAdded, IsCaused};
 ghost use Rattle.request_stream.specs.Reading.{ArePositive};
 ghost use Rattle.request_stream.specs.Units.{stamped, units, closing};
 
+use crate::laws::grammar;
 use crate::runs::read;
 use crate::state::State;
 use crate::types::{Limits, StreamFault, Unit};
@@ -72,6 +74,7 @@ impl<S: Spill + Drop> Stream<S> {
         ensures over { result.over ≡ false }
         ensures held { result.held ≡ 0 }
     {
+        grammar();
         Stream {
             limits,
             state: start(alloc),
@@ -90,18 +93,26 @@ impl<S: Spill + Drop> Stream<S> {
     ) -> Result<Vec<Unit<S>>, StreamFault<S>>
         ensures limits { self.new.limits ≡ self.old.limits }
         ensures fed { self.new.fed ≡ self.old.fed ++ stamped now piece.now }
-        // The units of all bytes so far are those of the bytes before, and these.
-        ensures units { IsTrue S.tells → IfOk result (λ us. self.old.failed ≡ false → units self.old.limits self.new.fed ≡ units self.old.limits self.old.fed ++ map asks us.items) }
-        ensures last { IsTrue S.tells → IfOk result (λ us. (self.old.failed || list_any closing (units self.old.limits self.old.fed)) ≡ true → us.items ≡ []) }
-        // Told or not, nothing is given behind a fault or a unit that closes.
-        ensures dead { IfOk result (λ us. (self.old.failed || self.old.over) ≡ true → us.items ≡ []) }
-        ensures over { IfOk result (λ us. self.old.failed ≡ false → self.new.over ≡ (self.old.over || list_any closing (map asks us.items))) }
-        ensures holds { IfOk result (λ us. self.new.held + sizes us.items ≤ self.old.held + length piece.now) }
+        // The units of all bytes so far are those of the bytes before, and these: the bytes of
+        // their bodies where the spill tells, all else whatever the spill.
+        ensures units { IfOk result (λ us. self.old.failed ≡ false →
+            IsAdded S.tells us.items (units self.old.limits self.old.fed)
+            (units self.old.limits self.new.fed)) }
+        ensures last { IfOk result (λ us. (self.old.failed
+            || list_any closing (units self.old.limits self.old.fed)) ≡ true → us.items ≡ []) }
+        // Nothing is given behind a fault or a unit that closes.
+        ensures dead { IfOk result (λ us. (self.old.failed || self.old.over) ≡ true →
+            us.items ≡ []) }
+        ensures over { IfOk result (λ us. self.old.failed ≡ false →
+            self.new.over ≡ (self.old.over || list_any closing (map asks us.items))) }
+        ensures holds { IfOk result (λ us. self.new.held + sizes us.items ≤ self.old.held
+            + length piece.now) }
         ensures kept { OnOk result (self.new.failed ≡ self.old.failed) }
         ensures fault { OnErr result (self.new.failed ≡ true) }
         ensures cause { IfErr result (λ f. IsCaused S.faults f) }
         ensures spills { P.faults spills.new ≡ P.faults spills.old }
     {
+        grammar();
         let about = (Snapshot::of(&self.fed), now, piece);
         self.fed = tell::<_, _, More>(&about);
         let limits = self.limits;
@@ -111,7 +122,8 @@ impl<S: Spill + Drop> Stream<S> {
     /// Whether it gives no further unit, whatever comes.
     pub fn finished(&self) -> bool
         ensures over { result ≡ (self.now.failed || self.now.over) }
-        ensures units { IsTrue S.tells → result ≡ (self.now.failed || list_any closing (units self.now.limits self.now.fed)) }
+        ensures units { result ≡ (self.now.failed || list_any closing
+            (units self.now.limits self.now.fed)) }
     {
         match &self.state {
             State::Over | State::Failed => true,

@@ -134,19 +134,22 @@ fn cuts_change_nothing(rt: HostRuntime) {
         (
             1000,
             1000,
-            &b"POST / HTTP/1.1\r\nTransfer-Encoding: chunked\r\n\r\nFFFFFFFFFFFFFFFF\r\naaaaaaaaaaaaaaaaaaaaaaaaaaaaaaaaaaaaaaaaaaaaaaaaaaaaaaaaaaaaaaaaaaaaaaaaaaaaaaaaaa"[..],
+            &b"POST / HTTP/1.1\r\nTransfer-Encoding: chunked\r\n\r\nFFFFFFFFFFFFFFFF\r\n\
+            aaaaaaaaaaaaaaaaaaaaaaaaaaaaaaaaaaaaaaaaaaaaaaaaaaaaaaaaaaaaaaaaaaaaaaaaaaaaaaaaaa"[..],
             &b""[..],
         ),
         (
             1000,
             100,
-            &b"POST / HTTP/1.1\r\nTransfer-Encoding: chunked\r\n\r\nFFFFFFFFFFFFFFFF\r\naaaaaaaaaaaaaaaaaaaaaaaaaaaaaaaaaaaaaaaaaaaaaaaaaaaaaaaaaaaaaaaaaaaaaaaaaaaaaaaaa"[..],
+            &b"POST / HTTP/1.1\r\nTransfer-Encoding: chunked\r\n\r\nFFFFFFFFFFFFFFFF\r\n\
+            aaaaaaaaaaaaaaaaaaaaaaaaaaaaaaaaaaaaaaaaaaaaaaaaaaaaaaaaaaaaaaaaaaaaaaaaaaaaaaaaa"[..],
             &b""[..],
         ),
         (
             1000,
             100,
-            &b"POST / HTTP/1.1\r\nTransfer-Encoding: chunked\r\n\r\nFFFFFFFFFFFFFFFF\r\naaaaaaaaaaaaaaaaaaaaaaaaaaaaaaaaaaaaaaaaaaaaaaaaaaaaaaaaaaaaaaaaaaaaaaaaaaaaaaaaaa"[..],
+            &b"POST / HTTP/1.1\r\nTransfer-Encoding: chunked\r\n\r\nFFFFFFFFFFFFFFFF\r\n\
+            aaaaaaaaaaaaaaaaaaaaaaaaaaaaaaaaaaaaaaaaaaaaaaaaaaaaaaaaaaaaaaaaaaaaaaaaaaaaaaaaaa"[..],
             &b"BodyTooLarge100 1.1,."[..],
         ),
         (
@@ -161,18 +164,23 @@ fn cuts_change_nothing(rt: HostRuntime) {
             &b"HEAD / HTTP/1.1\r\nTransfer-Encoding: chunked\r\n\r\ng"[..],
             &b"ChunkSize 1.1 bodyless,."[..],
         ),
-        // Empty lines, a body that is asked for, no body, a coded one, and nothing behind a refusal.
+        // Empty lines, a body that is asked for, no body, a coded one, and nothing behind a
+        // refusal.
         (
             1000,
             1000,
-            &b"\r\n\r\nPOST /f HTTP/1.1\r\nExpect: 100-continue\r\nContent-Length: 003\r\n\r\nabcGET /n HTTP/1.1\r\n\r\n\r\nPUT /c HTTP/1.1\r\nTransfer-Encoding: chunked\r\n\r\n2\r\nxy\r\n1\r\nz\r\n0\r\n\r\nbad\r\n\r\nGET / HTTP/1.1\r\n\r\n"[..],
+            &b"\r\n\r\nPOST /f HTTP/1.1\r\nExpect: 100-continue\r\nContent-Length: 003\r\n\r\n\
+              abcGET /n HTTP/1.1\r\n\r\n\r\nPUT /c HTTP/1.1\r\n\
+              Transfer-Encoding: chunked\r\n\r\n2\r\nxy\r\n1\r\nz\r\n0\r\n\r\nbad\r\n\r\n\
+              GET / HTTP/1.1\r\n\r\n"[..],
             &b"continue,POST/f abc,GET/n ,PUT/c xyz,RequestLine 1.0,."[..],
         ),
         // Both fields: the connection closes behind the request. A length that is none.
         (
             1000,
             1000,
-            &b"POST / HTTP/1.1\r\nContent-Length: 3\r\nTransfer-Encoding: chunked\r\n\r\n5\r\nhello\r\n0\r\n\r\nGET / HTTP/1.1\r\n\r\n"[..],
+            &b"POST / HTTP/1.1\r\nContent-Length: 3\r\nTransfer-Encoding: chunked\r\n\r\n5\r\n\
+              hello\r\n0\r\n\r\nGET / HTTP/1.1\r\n\r\n"[..],
             &b"POST/ hello,."[..],
         ),
         (

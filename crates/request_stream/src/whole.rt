@@ -1,7 +1,7 @@
 //! What a stream gives.
-ghost use Rattle.std.specs.Prelude.{◌≡◌, ◌≤◌, ◌<◌, ◌+◌, ◌^◌, ◌++◌, ◌∷◌, [], ℕ, false, length, map, IfOk, IfErr, OnOk, OnErr, IsTrue};
-ghost use Rattle.outside.specs.Causes.{Rose};
-ghost use Rattle.request_stream.specs.Asks.{asks, sizes, size_of, IsCaused};
+ghost use Rattle.std.specs.Prelude.{◌≡◌, ◌≤◌, ◌<◌, ◌+◌, ◌++◌, ◌∷◌, [], false, length, map, IfOk};
+ghost use Rattle.std.specs.Prelude.{OnOk};
+ghost use Rattle.request_stream.specs.Asks.{asks, sizes, size_of};
 ghost use Rattle.request_stream.specs.Reading.{Closes, GoesOn, IsSound};
 ghost use Rattle.request_stream.specs.Room.{held_of};
 ghost use Rattle.request_stream.specs.Units.{welcome, refusing};
@@ -9,14 +9,15 @@ ghost use Rattle.request_stream.specs.declared.types.Limits.{Limits as SomeLimit
 
 use crate::state::State;
 use crate::types::{Refused, Request, Unit};
-use head_grammar::{Head, Refusal, Version};
+use head_grammar::{Head, Refusal, Version, one_end};
 use outside::Spill;
 use spill_buffer::OverflowBuffer;
 use std::alloc::{AllocError, Global};
 
 // One unit more.
 fn give<S: Spill + Drop>(unit: Unit<S>, given: &mut Vec<Unit<S>>) -> Result<(), AllocError>
-    ensures given { OnOk result (map asks given.new.items ≡ map asks given.old.items ++ asks unit ∷ []) }
+    ensures given { OnOk result (map asks given.new.items ≡ map asks given.old.items ++ asks unit
+        ∷ []) }
     ensures sizes { OnOk result (sizes given.new.items ≡ sizes given.old.items + size_of unit) }
 {
     given.push(unit)?;
@@ -28,7 +29,8 @@ pub(crate) fn greet<S: Spill + Drop>(
     head: &Head,
     given: &mut Vec<Unit<S>>,
 ) -> Result<(), AllocError>
-    ensures given { OnOk result (map asks given.new.items ≡ map asks given.old.items ++ welcome head.now) }
+    ensures given { OnOk result (map asks given.new.items
+        ≡ map asks given.old.items ++ welcome head.now) }
     ensures sizes { OnOk result (sizes given.new.items ≡ sizes given.old.items) }
 {
     if head.expects {
@@ -46,7 +48,8 @@ pub(crate) fn refuse<S: Spill + Drop>(
     given: &mut Vec<Unit<S>>,
 ) -> Result<State<S>, AllocError>
     ensures over { IfOk result (λ s. s ≡ State.Over) }
-    ensures given { IfOk result (λ s. map asks given.new.items ≡ map asks given.old.items ++ refusing refusal version bodyless moment ∷ []) }
+    ensures given { IfOk result (λ s. map asks given.new.items
+        ≡ map asks given.old.items ++ refusing refusal version bodyless moment ∷ []) }
     ensures sizes { OnOk result (sizes given.new.items ≡ sizes given.old.items) }
 {
     let refused = Refused {
@@ -64,6 +67,7 @@ pub(crate) fn start<S: Spill + Drop>(alloc: Global) -> State<S>
     ensures goes { GoesOn false result }
     ensures sound { (limits : SomeLimits) → 1 ≤ limits.max_head → IsSound limits result }
 {
+    one_end();
     State::Seeking(Vec::new(alloc))
 }
 
@@ -75,9 +79,12 @@ pub(crate) fn finish<S: Spill + Drop>(
     moment: u64,
     given: &mut Vec<Unit<S>>,
 ) -> Result<State<S>, AllocError>
-    ensures closes { IfOk result (λ s. Closes head body.bytes moment s (map asks given.old.items) (map asks given.new.items)) }
-    ensures sound { IfOk result (λ s. (limits : SomeLimits) → 1 ≤ limits.max_head → IsSound limits s) }
-    ensures holds { IfOk result (λ s. held_of s + sizes given.new.items ≡ sizes given.old.items + (head.size + body.in_memory)) }
+    ensures closes { IfOk result (λ s. Closes head body.bytes moment s (map asks given.old.items)
+        (map asks given.new.items)) }
+    ensures sound { IfOk result (λ s. (limits : SomeLimits) → 1 ≤ limits.max_head →
+        IsSound limits s) }
+    ensures holds { IfOk result (λ s. held_of s + sizes given.new.items
+        ≡ sizes given.old.items + (head.size + body.in_memory)) }
 {
     let closes = head.closes;
     let length = body.len();

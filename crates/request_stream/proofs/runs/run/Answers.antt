@@ -14,11 +14,17 @@ loop-at-preserved g c =
     record {
       within =
           let high = taken.1 in
-          let t = length-take (length c.args.piece.now - c.loop-at.at) (drop c.loop-at.at c.args.piece.now) in
+          let t = length-take (length c.args.piece.now - c.loop-at.at)
+          (drop c.loop-at.at c.args.piece.now) in
           let d = length-drop c.loop-at.at c.args.piece.now in omega arith;
       sound = c.in_ok-step.ensures.sound;
-      holds = holds_trans _ c.loop-at.state _ c.loop-at.at c.in_ok-step.step.taken _ c.loop-at.given.items _ c.loop-at.invariant.holds c.in_ok-step.ensures.holds;
-      shuts = shuts_trans _ c.loop-at.state _ _ (map asks c.loop-at.given.items) _ c.loop-at.invariant.shuts c.in_ok-step.ensures.shuts;
-      reads = λ t. reads_more _ _ c.loop-at.state _ _ c.loop-at.at c.in_ok-step.step.taken _ _ _ _ c.requires.positive.head c.loop-at.invariant.within (c.loop-at.invariant.reads t) (c.in_ok-step.ensures.reads t);
-      spills = subst (λ n. n ≡ g.P.Spills.faults c.args.spills.now) (sym c.in_ok-step.ensures.spills) c.loop-at.invariant.spills;
+      holds = holds_trans _ c.loop-at.state _ c.loop-at.at c.in_ok-step.step.taken _
+          c.loop-at.given.items _ c.loop-at.invariant.holds c.in_ok-step.ensures.holds;
+      shuts = shuts_trans _ c.loop-at.state _ _ (map asks c.loop-at.given.items) _
+          c.loop-at.invariant.shuts c.in_ok-step.ensures.shuts;
+      reads = reads_more _ _ _ c.loop-at.state _ _ c.loop-at.at c.in_ok-step.step.taken _ _ _ _
+          c.requires.positive.head c.loop-at.invariant.within c.loop-at.invariant.reads
+          c.in_ok-step.ensures.reads;
+      spills = subst (λ n. n ≡ g.P.Spills.faults c.args.spills.now)
+          (sym c.in_ok-step.ensures.spills) c.loop-at.invariant.spills;
     }

@@ -1,5 +1,5 @@
 use Rattle.std.proofs.Common.{◌≡◌, ◌≤◌, ◌-◌, length, take}
-use Rattle.std.specs.Prelude.{IsTrue, map}
+use Rattle.std.specs.Prelude.{map}
 use Rattle.request_stream.specs.Asks.{asks}
 use Rattle.request_stream.specs.Reading.{Reads, Shuts, IsSound}
 use Rattle.request_stream.specs.Room.{Holds}
@@ -12,7 +12,8 @@ invariant-loop-at g l = record {
   sound : IsSound l.limits l.state;
   holds : Holds l.initial.state l.state l.at l.initial.given.items l.given.items;
   shuts : Shuts l.initial.state l.state (map asks l.initial.given.items) (map asks l.given.items);
-  reads : IsTrue g.S.Spill.tells → Reads l.limits l.initial.state l.state (stamped l.now (take l.at l.piece)) (map asks l.initial.given.items) (map asks l.given.items);
+  reads : Reads g.S.Spill.tells l.limits l.initial.state l.state (stamped l.now (take l.at l.piece))
+      (map asks l.initial.given.items) (map asks l.given.items);
   spills : g.P.Spills.faults l.spills ≡ g.P.Spills.faults l.initial.spills;
 }
 
