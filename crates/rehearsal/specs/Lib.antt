@@ -1,0 +1,4 @@
+pub mod Plans
+pub mod Requests
+pub mod Summary
+pub mod Sums
