@@ -5,6 +5,8 @@
 mod plan;
 mod requests;
 mod sums;
+#[cfg(test)]
+mod tests;
 mod text;
 
 pub use plan::rehearsal;
