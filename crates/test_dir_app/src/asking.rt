@@ -83,7 +83,7 @@ pub(crate) fn path_alone(alloc: Global, path: &[u8]) -> Result<Environ, AllocErr
         let name = Bytes::from_slice(alloc, name)?;
         pairs.push((name, Bytes::from_slice(alloc, value)?))?;
     }
-    Ok(Environ::of(pairs))
+    Environ::of(alloc, pairs.as_slice())
 }
 
 // The response of the folder `site` to a request without a body.

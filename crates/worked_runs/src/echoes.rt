@@ -33,7 +33,7 @@ fn a_body_comes_back_in_pieces(rt: HostRuntime) -> Result<(), Fail> {
     let mut spills = MemSpills::new(alloc, Vec::new(alloc));
     let mut body = OverflowBuffer::new(alloc, spills.make(), 524_288);
     assert!(rt; body.append(alloc, &[b'a'; 40_000]).is_ok());
-    let Ok(mut run) = Echo.open(alloc, Environ::of(Vec::new(alloc)), body) else {
+    let Ok(mut run) = Echo.open(alloc, Environ::of(alloc, &[])?, body) else {
         return Err(Fail::from("no memory"));
     };
     let rows = [

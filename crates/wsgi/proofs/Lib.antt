@@ -1,1 +1,2 @@
+mod MorePairs
 mod Rows

@@ -11,10 +11,12 @@ mod site;
 mod step;
 #[cfg(test)]
 mod tests;
+mod text;
 mod variables;
 
 pub use app::{App, AppRun};
 pub use of_request::environ;
+pub use pairs::Pairs;
 pub use site::Site;
 pub use step::{RunFault, Step};
 pub use variables::Environ;

@@ -1,12 +1,10 @@
 //! The variables of fields.
-ghost use Rattle.std.specs.Prelude.{◌≡◌, ◌++◌, ◌∷◌, [], IfOk, OnOk, codes, map};
+ghost use Rattle.std.specs.Prelude.{◌≡◌, ◌++◌, ◌∷◌, [], OnOk};
 ghost use Rattle.wsgi.specs.Environ as spec;
 
+use crate::Environ;
 use head_grammar::Field;
-use outside::{Bytes, Items};
-use std::alloc::{AllocError, Global};
-
-const PREFIX: &[u8] = b"HTTP_";
+use std::alloc::AllocError;
 
 const OF_BODY: [&[u8]; 3] = [b"content-type", b"content-length", b"transfer-encoding"];
 
@@ -16,49 +14,21 @@ fn is_of_body(name: &[u8]) -> bool
     OF_BODY.iter().any(|other| name == *other)
 }
 
-fn variable_byte(byte: u8) -> u8
-    ensures { result ≡ spec.variable_byte byte }
+fn add_field(environ: &mut Environ, field: &Field) -> Result<(), AllocError>
+    ensures { OnOk result (environ.new ≡ environ.old ++ spec.field_variables (field.now ∷ [])) }
 {
-    if byte == b'-' {
-        b'_'
-    } else {
-        byte.to_ascii_uppercase()
-    }
-}
-
-fn variable_of(alloc: Global, name: &[u8]) -> Result<Vec<u8>, AllocError>
-    ensures { IfOk result (λ variable. variable.items
-        ≡ codes "HTTP_" ++ map spec.variable_byte name.now) }
-{
-    let mut variable = Vec::with_capacity(alloc, PREFIX.len() + name.len())?;
-    variable.extend_from_slice(PREFIX)?;
-    variable.extend(name.iter().map(|byte| variable_byte(*byte)))?;
-    Ok(variable)
-}
-
-fn add_field(alloc: Global, pairs: &mut Vec<(Bytes, Bytes)>, field: Field) -> Result<(), AllocError>
-    ensures { OnOk result (pairs.new.items
-        ≡ pairs.old.items ++ spec.field_variables (field ∷ [])) }
-{
-    let Field { name, value } = field;
-    if is_of_body(name.as_slice()) {
+    if is_of_body(field.name.as_slice()) {
         return Ok(());
     }
-    let variable = Bytes::from_vec(variable_of(alloc, name.as_slice())?);
-    pairs.push((variable, value))?;
-    Ok(())
+    environ.add_field(field.name.as_slice(), field.value.as_slice())
 }
 
 /// Adds the variables of the fields that say nothing of the body.
-pub fn add_fields(
-    alloc: Global,
-    pairs: &mut Vec<(Bytes, Bytes)>,
-    fields: Items<Field>,
-) -> Result<(), AllocError>
-    ensures { OnOk result (pairs.new.items ≡ pairs.old.items ++ spec.field_variables fields) }
+pub fn add_fields(environ: &mut Environ, fields: &[Field]) -> Result<(), AllocError>
+    ensures { OnOk result (environ.new ≡ environ.old ++ spec.field_variables fields.now) }
 {
-    for field in fields.into_vec() {
-        add_field(alloc, pairs, field)?;
+    for field in fields {
+        add_field(environ, field)?;
     }
     Ok(())
 }

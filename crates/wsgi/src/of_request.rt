@@ -1,11 +1,10 @@
 //! The environ that a request makes.
-ghost use Rattle.std.specs.Prelude.{◌≡◌, ◌++◌, IfOk, OnOk, codes};
+ghost use Rattle.std.specs.Prelude.{◌≡◌, ◌++◌, IfOk, OnOk, codes, unwrap_or};
 ghost use Rattle.proxy_trust.specs.Answers.{Answers};
 ghost use Rattle.proxy_trust.specs.Rules.{IsSound};
 ghost use Rattle.wsgi.specs.Environ as spec;
 
 use crate::of_fields::add_fields;
-use crate::pairs::{add, add_optional, told_or};
 use crate::{Environ, Site};
 use head_grammar::{Framing, Head, Version, value_of};
 use itoa::Buffer;
@@ -15,6 +14,12 @@ use std::alloc::{AllocError, Global};
 
 /// How many variables there are at most beside those of fields.
 const OWN_VARIABLES: usize = 15;
+
+/// How long their names are with what isn't counted of their values, and no less.
+const OWN_SIZE: usize = 256;
+
+/// How much longer than the name of a field that of its variable is.
+const PREFIX_SIZE: usize = 5;
 
 fn is_rooted(bytes: &[u8]) -> bool
     ensures { result ≡ spec.is_rooted bytes.now }
@@ -40,107 +45,111 @@ fn protocol(version: Version) -> &'static [u8]
     }
 }
 
-fn add_line(
-    alloc: Global,
-    pairs: &mut Vec<(Bytes, Bytes)>,
-    prefix: &[u8],
-    head: &Head,
-) -> Result<(), AllocError>
-    ensures { OnOk result (pairs.new.items
-        ≡ pairs.old.items ++ spec.line_variables prefix.now head.now) }
+// What a proxy told, or else what is known without it.
+fn told_or<'a>(told: &'a Option<Bytes>, known: &'a [u8]) -> &'a [u8]
+    ensures { result.now ≡ unwrap_or told.now known.now }
 {
-    add(alloc, pairs, b"REQUEST_METHOD", head.method.as_slice())?;
-    add(alloc, pairs, b"SCRIPT_NAME", prefix)?;
-    add(
-        alloc,
-        pairs,
-        b"PATH_INFO",
-        path_info(prefix, head.path.as_slice()),
-    )?;
-    add(alloc, pairs, b"REQUEST_URI", head.target.as_slice())?;
-    add(alloc, pairs, b"QUERY_STRING", head.query.as_slice())
+    match told {
+        Some(value) => value.as_slice(),
+        None => known,
+    }
 }
 
-fn add_length(
-    alloc: Global,
-    pairs: &mut Vec<(Bytes, Bytes)>,
-    head: &Head,
-    length: u64,
-) -> Result<(), AllocError>
-    ensures { OnOk result (pairs.new.items ≡ pairs.old.items ++ spec.optional (codes "CONTENT_LENGTH")
+fn add_line(environ: &mut Environ, prefix: &[u8], head: &Head) -> Result<(), AllocError>
+    ensures { OnOk result (environ.new
+        ≡ environ.old ++ spec.line_variables prefix.now head.now) }
+{
+    environ.add(b"REQUEST_METHOD", head.method.as_slice())?;
+    environ.add(b"SCRIPT_NAME", prefix)?;
+    environ.add(b"PATH_INFO", path_info(prefix, head.path.as_slice()))?;
+    environ.add(b"REQUEST_URI", head.target.as_slice())?;
+    environ.add(b"QUERY_STRING", head.query.as_slice())
+}
+
+fn add_length(environ: &mut Environ, head: &Head, length: u64) -> Result<(), AllocError>
+    ensures { OnOk result (environ.new
+        ≡ environ.old ++ spec.optional (codes "CONTENT_LENGTH")
         (spec.content_length head.now.framing head.now.fields length)) }
 {
     const NAME: &[u8] = b"CONTENT_LENGTH";
     match head.framing {
-        Framing::Chunked => add(alloc, pairs, NAME, Buffer::new().format(length).as_bytes()),
+        Framing::Chunked => environ.add(NAME, Buffer::new().format(length).as_bytes()),
         Framing::Empty | Framing::Fixed(_) => {
-            add_optional(
-                alloc,
-                pairs,
-                NAME,
-                value_of(head.fields.as_slice(), b"content-length"),
-            )
+            environ.add_optional(NAME, value_of(head.fields.as_slice(), b"content-length"))
         }
     }
 }
 
-fn add_body(
-    alloc: Global,
-    pairs: &mut Vec<(Bytes, Bytes)>,
-    head: &Head,
-    length: u64,
-) -> Result<(), AllocError>
-    ensures { OnOk result (pairs.new.items
-        ≡ pairs.old.items ++ spec.body_variables head.now length) }
+fn add_body(environ: &mut Environ, head: &Head, length: u64) -> Result<(), AllocError>
+    ensures { OnOk result (environ.new
+        ≡ environ.old ++ spec.body_variables head.now length) }
 {
     let content_type = value_of(head.fields.as_slice(), b"content-type");
-    add_optional(alloc, pairs, b"CONTENT_TYPE", content_type)?;
-    add_length(alloc, pairs, head, length)
+    environ.add_optional(b"CONTENT_TYPE", content_type)?;
+    add_length(environ, head, length)
 }
 
 fn add_server(
-    alloc: Global,
-    pairs: &mut Vec<(Bytes, Bytes)>,
+    environ: &mut Environ,
     site: &Site,
     peer: &Peer,
     version: Version,
     told: &Trusted,
 ) -> Result<(), AllocError>
-    ensures { OnOk result (pairs.new.items
-        ≡ pairs.old.items ++ spec.server_variables site.now peer.now version told.now) }
+    ensures { OnOk result (environ.new
+        ≡ environ.old ++ spec.server_variables site.now peer.now version told.now) }
 {
     let mut digits = Buffer::new();
     let local_port = digits.format(peer.local_port).as_bytes();
     let name = told_or(&told.server_name, site.server_name.as_slice());
-    add(alloc, pairs, b"SERVER_NAME", name)?;
-    add(
-        alloc,
-        pairs,
-        b"SERVER_PORT",
-        told_or(&told.server_port, local_port),
-    )?;
-    add(alloc, pairs, b"SERVER_PROTOCOL", protocol(version))?;
-    add(alloc, pairs, b"SERVER_SOFTWARE", site.ident.as_slice())
+    environ.add(b"SERVER_NAME", name)?;
+    environ.add(b"SERVER_PORT", told_or(&told.server_port, local_port))?;
+    environ.add(b"SERVER_PROTOCOL", protocol(version))?;
+    environ.add(b"SERVER_SOFTWARE", site.ident.as_slice())
 }
 
 fn add_client(
-    alloc: Global,
-    pairs: &mut Vec<(Bytes, Bytes)>,
+    environ: &mut Environ,
     site: &Site,
     peer: &Peer,
     told: &Trusted,
 ) -> Result<(), AllocError>
-    ensures { OnOk result (pairs.new.items
-        ≡ pairs.old.items ++ spec.client_variables site.now peer.now told.now) }
+    ensures { OnOk result (environ.new
+        ≡ environ.old ++ spec.client_variables site.now peer.now told.now) }
 {
     let mut digits = Buffer::new();
     let port = digits.format(peer.port).as_bytes();
     let addr = told_or(&told.addr, peer.addr.as_slice());
     let scheme = told_or(&told.scheme, site.url_scheme.as_slice());
-    add(alloc, pairs, b"REMOTE_ADDR", addr)?;
-    add(alloc, pairs, b"REMOTE_HOST", addr)?;
-    add(alloc, pairs, b"REMOTE_PORT", told_or(&told.port, port))?;
-    add(alloc, pairs, b"wsgi.url_scheme", scheme)
+    environ.add(b"REMOTE_ADDR", addr)?;
+    environ.add(b"REMOTE_HOST", addr)?;
+    environ.add(b"REMOTE_PORT", told_or(&told.port, port))?;
+    environ.add(b"wsgi.url_scheme", scheme)
+}
+
+// About how long the names and values of all variables are together.
+fn expected_size(site: &Site, peer: &Peer, head: &Head, told: &Trusted) -> usize {
+    let addr = told_or(&told.addr, peer.addr.as_slice()).len();
+    let mut size = OWN_SIZE;
+    for text in [
+        head.method.len(),
+        site.url_prefix.len(),
+        head.path.len(),
+        head.target.len(),
+        head.query.len(),
+        told_or(&told.server_name, site.server_name.as_slice()).len(),
+        site.ident.len(),
+        addr,
+        addr,
+        told_or(&told.scheme, site.url_scheme.as_slice()).len(),
+    ] {
+        size = size.saturating_add(text);
+    }
+    for field in told.fields.as_slice() {
+        let name = PREFIX_SIZE.saturating_add(field.name.len());
+        size = size.saturating_add(name).saturating_add(field.value.len());
+    }
+    size
 }
 
 // The environ where proxies tell this.
@@ -150,18 +159,20 @@ fn environ_with(
     peer: &Peer,
     head: &Head,
     length: u64,
-    told: Trusted,
+    told: &Trusted,
 ) -> Result<Environ, AllocError>
     ensures { IfOk result (λ environ. environ
-        ≡ spec.environ_with site.now peer.now head.now length told) }
+        ≡ spec.environ_with site.now peer.now head.now length told.now) }
 {
-    let mut pairs = Vec::with_capacity(alloc, told.fields.len().saturating_add(OWN_VARIABLES))?;
-    add_line(alloc, &mut pairs, site.url_prefix.as_slice(), head)?;
-    add_body(alloc, &mut pairs, head, length)?;
-    add_server(alloc, &mut pairs, site, peer, head.version, &told)?;
-    add_client(alloc, &mut pairs, site, peer, &told)?;
-    add_fields(alloc, &mut pairs, told.fields)?;
-    Ok(Environ::of(pairs))
+    let pairs = told.fields.len().saturating_add(OWN_VARIABLES);
+    let size = expected_size(site, peer, head, told);
+    let mut environ = Environ::with_room(alloc, pairs, size)?;
+    add_line(&mut environ, site.url_prefix.as_slice(), head)?;
+    add_body(&mut environ, head, length)?;
+    add_server(&mut environ, site, peer, head.version, told)?;
+    add_client(&mut environ, site, peer, told)?;
+    add_fields(&mut environ, told.fields.as_slice())?;
+    Ok(environ)
 }
 
 /// The environ of a request with this head, from this peer. The length is that of the body, once
@@ -178,5 +189,5 @@ pub fn environ(
     ensures { Answers result (spec.environ_of site.now peer.now head.now length) }
 {
     let told = trust(alloc, &site.rules, peer, head.fields.as_slice())?;
-    Ok(environ_with(alloc, site, peer, head, length, told)?)
+    Ok(environ_with(alloc, site, peer, head, length, &told)?)
 }

@@ -1,47 +1,50 @@
-//! Variables, one behind the other.
-ghost use Rattle.std.specs.Prelude.{◌≡◌, ◌++◌, ◌∷◌, [], OnOk, option_copied, unwrap_or};
-ghost use Rattle.wsgi.specs.Environ as spec;
+//! The pairs that a text is cut into.
+ghost use Rattle.std.specs.Prelude.{◌≡◌, length};
+ghost use Rattle.std.specs.Iterator.{YieldsFirstBy, item_count};
+ghost use Rattle.wsgi.specs.Cuts.{cut, total};
 
-use outside::Bytes;
-use std::alloc::{AllocError, Global};
+use std::marker::Model;
 
-/// Adds a variable.
-pub fn add(
-    alloc: Global,
-    pairs: &mut Vec<(Bytes, Bytes)>,
-    name: &[u8],
-    value: &[u8],
-) -> Result<(), AllocError>
-    ensures { OnOk result (pairs.new.items ≡ pairs.old.items ++ (name.now, value.now) ∷ []) }
-{
-    let name = Bytes::from_slice(alloc, name)?;
-    let value = Bytes::from_slice(alloc, value)?;
-    pairs.push((name, value))?;
-    Ok(())
+/// The names and values of an environ that are left, in order.
+#[derive(Drop)]
+pub struct Pairs<'a> {
+    text: &'a [u8],
+    sizes: &'a [(usize, usize)],
 }
 
-/// Adds a variable where there is a value.
-pub fn add_optional(
-    alloc: Global,
-    pairs: &mut Vec<(Bytes, Bytes)>,
-    name: &[u8],
-    value: Option<&[u8]>,
-) -> Result<(), AllocError>
-    ensures { OnOk result (pairs.new.items
-        ≡ pairs.old.items ++ spec.optional name.now (option_copied value.entry)) }
-{
-    match value {
-        Some(value) => add(alloc, pairs, name, value),
-        None => Ok(()),
+impl<'a> Model for Pairs<'a> {
+    ghost use Rattle.std.specs.Prelude.{◌≡◌, List, ℕ, length};
+    ghost use Rattle.wsgi.specs.Cuts.{cut, total};
+
+    ghost Value = { List (List ℕ × List ℕ) };
+
+    ghost view = { λ pairs. cut pairs.text.now pairs.sizes.now };
+
+    ghost invariant = { λ pairs. total pairs.sizes.now ≡ length pairs.text.now };
+}
+
+impl<'a> Pairs<'a> {
+    pub(crate) fn new(text: &'a [u8], sizes: &'a [(usize, usize)]) -> Pairs<'a>
+        requires { total sizes.now ≡ length text.now }
+        ensures { result ≡ cut text.now sizes.now }
+    {
+        Pairs { text, sizes }
     }
 }
 
-/// What a proxy told, or else what is known without it.
-pub fn told_or<'a>(told: &'a Option<Bytes>, known: &'a [u8]) -> &'a [u8]
-    ensures { result.now ≡ unwrap_or told.now known.now }
-{
-    match told {
-        Some(value) => value.as_slice(),
-        None => known,
+impl<'a> Iterator for Pairs<'a> {
+    type Item = (&'a [u8], &'a [u8]);
+
+    ghost next_gives = { YieldsFirstBy (λ pair. (pair.0.now, pair.1.now)) (λ pairs. pairs) };
+
+    ghost remaining = { item_count (λ pairs. pairs) };
+
+    fn next(&mut self) -> Option<(&'a [u8], &'a [u8])> {
+        let (size, sizes) = self.sizes.split_first()?;
+        let (name, rest) = self.text.split_at(size.0);
+        let (value, rest) = rest.split_at(size.1);
+        self.text = rest;
+        self.sizes = sizes;
+        Some((name, value))
     }
 }

@@ -99,10 +99,10 @@ fn shown(alloc: Global, environ: &Environ, names: &str) -> Result<Vec<u8>, Alloc
         return values(alloc, environ, names);
     }
     let mut text = Vec::new(alloc);
-    for (name, value) in &environ.pairs {
-        text.extend_from_slice(name.as_slice())?;
+    for (name, value) in environ.iter() {
+        text.extend_from_slice(name)?;
         text.push(b'=')?;
-        text.extend_from_slice(value.as_slice())?;
+        text.extend_from_slice(value)?;
         text.push(b'\n')?;
     }
     Ok(text)

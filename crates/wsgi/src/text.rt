@@ -1,0 +1,38 @@
+//! Text that grows within its room.
+ghost use Rattle.std.specs.Prelude.{◌≡◌, ◌≤◌, ◌+◌, ◌++◌, length, map};
+ghost use Rattle.std.specs.Vec.{vec_len, vec_capacity};
+ghost use Rattle.wsgi.specs.Environ.{variable_byte};
+
+/// Adds to a text that has room.
+pub fn put(text: &mut Vec<u8>, more: &[u8])
+    requires room { vec_len text.old + length more.now ≤ vec_capacity text.old }
+    ensures items { text.new.items ≡ text.old.items ++ more.now }
+    ensures len { vec_len text.new ≡ vec_len text.old + length more.now }
+    ensures capacity { vec_capacity text.old ≤ vec_capacity text.new }
+{
+    let Ok(()) = text.extend_from_slice(more) else {
+        unreachable!()
+    };
+}
+
+fn variable_byte(byte: u8) -> u8
+    ensures { result ≡ variable_byte byte }
+{
+    if byte == b'-' {
+        b'_'
+    } else {
+        byte.to_ascii_uppercase()
+    }
+}
+
+/// Adds the name of a field as that of its variable, to a text that has room.
+pub fn put_variable(text: &mut Vec<u8>, name: &[u8])
+    requires room { vec_len text.old + length name.now ≤ vec_capacity text.old }
+    ensures items { text.new.items ≡ text.old.items ++ map variable_byte name.now }
+    ensures len { vec_len text.new ≡ vec_len text.old + length name.now }
+    ensures capacity { vec_capacity text.old ≤ vec_capacity text.new }
+{
+    for byte in name {
+        text.push_reserved(variable_byte(*byte));
+    }
+}
