@@ -1,5 +1,27 @@
 -- A list that is read item by item.
-use Rattle.std.proofs.Common.{◌≡◌, ℕ, suc, List, [], ◌∷◌, ◌++◌, length, get_or, Option, Some, None, option_map, Result, Ok, Err, refl, sym, ap, arith, append_assoc}
+use Rattle.std.proofs.Common.{
+  ◌≡◌,
+  ℕ,
+  suc,
+  List,
+  [],
+  ◌∷◌,
+  ◌++◌,
+  length,
+  get_or,
+  Option,
+  Some,
+  None,
+  option_map,
+  Result,
+  Ok,
+  Err,
+  refl,
+  sym,
+  ap,
+  arith,
+  append_assoc,
+}
 use Rattle.std.proofs.lemmas.List.{length-append}
 use Rattle.toml.specs.Data.{Data, Items, no_items, item, Members}
 use Rattle.toml.specs.View.{view, items_view}
@@ -14,15 +36,18 @@ use Rattle.apps.specs.declared.fault.TableFault.TheVariants as fault
 abbrev pub behind : {A : Type 0} → List A → Option (List A) → Option (List A)
 behind front rest = option_map (λ more. front ++ more) rest
 
-one_more : {A : Type 0} (front : List A) (a : A) (rest : Option (List A)) → behind front (option_map (λ more. a ∷ more) rest) ≡ behind (front ++ a ∷ []) rest
+one_more : {A : Type 0} (front : List A) (a : A) (rest : Option (List A)) →
+    behind front (option_map (λ more. a ∷ more) rest) ≡ behind (front ++ a ∷ []) rest
 one_more front a None = refl
 one_more front a (Some more) = ap Some (sym (append_assoc front (a ∷ []) more))
 
-pub behind_read : {A : Type 0} (read : Data → Option A) (front : List A) (d : Data) (ds : Items) (a : A) → read d ≡ Some a
+pub behind_read : {A : Type 0} (read : Data → Option A) (front : List A) (d : Data) (ds : Items)
+    (a : A) → read d ≡ Some a
     → behind front (each read (item d ds)) ≡ behind (front ++ a ∷ []) (each read ds)
 behind_read read front d ds a h = rw h (one_more front a (each read ds))
 
-pub behind_refused : {A : Type 0} (read : Data → Option A) (front : List A) (d : Data) (ds : Items) → read d ≡ None
+pub behind_refused : {A : Type 0} (read : Data → Option A) (front : List A) (d : Data)
+    (ds : Items) → read d ≡ None
     → behind front (each read (item d ds)) ≡ None
 behind_refused read front d ds h = rw h
 
@@ -31,21 +56,27 @@ abbrev pub rows_behind : List Row → Result (List Row) TableFault → Result (L
 rows_behind front rest = rest >>= (λ more. Ok (front ++ more))
 
 one_row_more : (front : List Row) (first : Row) (rest : Result (List Row) TableFault)
-    → rows_behind front (rest >>= (λ more. Ok (first ∷ more))) ≡ rows_behind (front ++ first ∷ []) rest
+    → rows_behind front (rest >>= (λ more. Ok (first ∷ more))) ≡ rows_behind (front ++ first ∷ [])
+    rest
 one_row_more front first (Err e) = refl
 one_row_more front first (Ok more) = ap Ok (sym (append_assoc front (first ∷ []) more))
 
-pub rows_behind_read : (front : List Row) (ms : Members) (rest : List Members) (first : Row) → row_of ms ≡ Some first
-    → rows_behind front (rows_from (length front) (ms ∷ rest)) ≡ rows_behind (front ++ first ∷ []) (rows_from (length (front ++ first ∷ [])) rest)
+pub rows_behind_read : (front : List Row) (ms : Members) (rest : List Members) (first : Row) →
+    row_of ms ≡ Some first
+    → rows_behind front (rows_from (length front) (ms ∷ rest)) ≡ rows_behind (front ++ first ∷ [])
+    (rows_from (length (front ++ first ∷ [])) rest)
 rows_behind_read front ms rest first h =
-    let counted : length (front ++ first ∷ []) ≡ suc (length front) = omega (arith, length-append front (first ∷ [])) in
+    let counted : length (front ++ first ∷ []) ≡ suc (length front) =
+    omega (arith, length-append front (first ∷ [])) in
     rw (h, counted) (one_row_more front first (rows_from (suc (length front)) rest))
 
-pub rows_behind_refused : (front : List Row) (place : ℕ) (ms : Members) (rest : List Members) → row_of ms ≡ None
+pub rows_behind_refused : (front : List Row) (place : ℕ) (ms : Members) (rest : List Members) →
+    row_of ms ≡ None
     → rows_behind front (rows_from place (ms ∷ rest)) ≡ Err (fault.BadRow place)
 rows_behind_refused front place ms rest h = rw h
 
-pub two_items : (vs : List Value) (d : Value) → length vs ≡ 2 → items_view vs ≡ item (view (get_or vs 0 d)) (item (view (get_or vs 1 d)) no_items)
+pub two_items : (vs : List Value) (d : Value) → length vs ≡ 2 →
+    items_view vs ≡ item (view (get_or vs 0 d)) (item (view (get_or vs 1 d)) no_items)
 two_items (a ∷ b ∷ []) d h = refl
 two_items [] d h = absurd (omega (arith, h))
 two_items (a ∷ []) d h = absurd (omega (arith, h))

@@ -1,5 +1,24 @@
 -- No fault of a file is want of memory.
-use Rattle.std.proofs.Common.{◌≡◌, ℕ, suc, Bool, true, false, cond, List, [], ◌∷◌, length, Option, Some, None, Result, Ok, Err, ap}
+use Rattle.std.proofs.Common.{
+  ◌≡◌,
+  ℕ,
+  suc,
+  Bool,
+  true,
+  false,
+  cond,
+  List,
+  [],
+  ◌∷◌,
+  length,
+  Option,
+  Some,
+  None,
+  Result,
+  Ok,
+  Err,
+  ap,
+}
 use Rattle.std.specs.Prelude.{nat_le}
 use Rattle.std.specs.Option.{ok_or}
 use Rattle.toml.specs.Data.{Members}
@@ -14,15 +33,18 @@ IsOther r = r ≡ Err fault.NoMemory → ⊥
 ok_other : {A : Type 0} (a : A) → IsOther (Ok a)
 ok_other a e = cc
 
-small_other : {A : Type 0} (b : Bool) (r : Result A TableFault) → IsOther r → IsOther (cond b r (Err fault.TooLarge))
+small_other : {A : Type 0} (b : Bool) (r : Result A TableFault) → IsOther r →
+    IsOther (cond b r (Err fault.TooLarge))
 small_other true r other = other
 small_other false r other = λ e. cc
 
-some_other : {A : Type 0} (b : Bool) (r : Result A TableFault) → IsOther r → IsOther (cond b r (Err fault.TooManyRows))
+some_other : {A : Type 0} (b : Bool) (r : Result A TableFault) → IsOther r →
+    IsOther (cond b r (Err fault.TooManyRows))
 some_other true r other = other
 some_other false r other = λ e. cc
 
-then_other : {A B : Type 0} (r : Result A TableFault) (f : A → Result B TableFault) → IsOther r → ((a : A) → IsOther (f a)) → IsOther (r >>= f)
+then_other : {A B : Type 0} (r : Result A TableFault) (f : A → Result B TableFault) → IsOther r →
+    ((a : A) → IsOther (f a)) → IsOther (r >>= f)
 then_other (Ok a) f first next = next a
 then_other (Err e) f first next = λ is. let same : e ≡ fault.NoMemory = cc in first (ap Err same)
 
@@ -41,9 +63,11 @@ bad_other place (Some a) e = cc
 rows_other : (place : ℕ) (tables : List Members) → IsOther (rows_from place tables)
 rows_other place [] = ok_other []
 rows_other place (ms ∷ rest) =
-    then_other (ok_or (row_of ms) (fault.BadRow place)) (λ first. rows_from (suc place) rest >>= (λ more. Ok (first ∷ more)))
+    then_other (ok_or (row_of ms) (fault.BadRow place)) (λ first. rows_from (suc place) rest >>=
+    (λ more. Ok (first ∷ more)))
     (bad_other place (row_of ms))
-    (λ first. then_other (rows_from (suc place) rest) (λ more. Ok (first ∷ more)) (rows_other (suc place) rest) (λ more. ok_other (first ∷ more)))
+    (λ first. then_other (rows_from (suc place) rest) (λ more. Ok (first ∷ more))
+    (rows_other (suc place) rest) (λ more. ok_other (first ∷ more)))
 
 few_other : (tables : List Members) → IsOther (few tables)
 few_other tables = some_other (nat_le (length tables) 1000) (Ok tables) (ok_other tables)
@@ -54,5 +78,6 @@ never_memory bytes =
     then_other (cond (nat_le (length bytes) 1048576) (Ok bytes) (Err fault.TooLarge)) _
     (small_other (nat_le (length bytes) 1048576) (Ok bytes) (ok_other bytes))
     (λ small. then_other (ok_or (document small) fault.NotToml) _ (toml_other (document small))
-    (λ document. then_other (ok_or (tables_of document) fault.NotTable) _ (table_other (tables_of document))
+    (λ document. then_other (ok_or (tables_of document) fault.NotTable) _
+    (table_other (tables_of document))
     (λ tables. then_other (few tables) _ (few_other tables) (rows_other 0))))

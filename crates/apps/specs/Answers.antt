@@ -18,7 +18,8 @@ text_fields fields size =
 
 -- a text in one piece, with these fields in front of its own
 unfoldable pub text_script : List ℕ → List Field → List ℕ → List Step
-text_script status fields text = Start status (text_fields fields (length text)) false ∷ Whole text ∷ []
+text_script status fields text = Start status (text_fields fields (length text)) false ∷ Whole text
+    ∷ []
 
 -- 404 (RFC 9110, section 15.5.5)
 abbrev pub not_found : List Step

@@ -8,7 +8,8 @@ use Rattle.apps.specs.Pieces.{pieces}
 
 -- the request's content type, or that of unknown bytes (RFC 2046, section 4.5.1)
 unfoldable pub echo_type : List (List ℕ × List ℕ) → List ℕ
-echo_type environ = unwrap_or (first_value (codes "CONTENT_TYPE") environ) (codes "application/octet-stream")
+echo_type environ = unwrap_or (first_value (codes "CONTENT_TYPE") environ)
+    (codes "application/octet-stream")
 
 unfoldable pub echo_start : List (List ℕ × List ℕ) → ℕ → Step
 echo_start environ size = Start (codes "200 OK")

@@ -1,4 +1,5 @@
--- The body of a response in byte strings, as an iterable gives it (PEP 3333, 'Buffering and Streaming').
+-- The body of a response in byte strings, as an iterable gives it (PEP 3333, 'Buffering and
+-- Streaming').
 use Rattle.std.specs.Prelude.{ℕ, suc, ◌+◌, ◌/◌, List, ◌++◌, Option, None, Some, length, map}
 use Rattle.std.specs.Option.{option_to_list}
 use Rattle.std.specs.Simd.{first_chunks}

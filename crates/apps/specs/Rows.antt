@@ -1,8 +1,44 @@
 -- The row that a table of the file writes (TOML, 'Table', 'Array of Tables').
-use Rattle.std.specs.Prelude.{ℕ, pos, Bool, true, false, not, ◌&&◌, ◌||◌, ◌==◌, List, [], ◌∷◌, length, slice_index, codes, Option, None, Some, option_map, option_and_then, if◌then◌else◌}
+use Rattle.std.specs.Prelude.{
+  ℕ,
+  pos,
+  Bool,
+  true,
+  false,
+  not,
+  ◌&&◌,
+  ◌||◌,
+  ◌==◌,
+  List,
+  [],
+  ◌∷◌,
+  length,
+  slice_index,
+  codes,
+  Option,
+  None,
+  Some,
+  option_map,
+  option_and_then,
+  if◌then◌else◌,
+}
 use Rattle.std.specs.List.{list_any}
 use Rattle.std.specs.Str.{bytes_eq}
-use Rattle.toml.specs.Data.{Data, string, integer, boolean, array, table, Items, no_items, item, Members, no_members, member, get_member}
+use Rattle.toml.specs.Data.{
+  Data,
+  string,
+  integer,
+  boolean,
+  array,
+  table,
+  Items,
+  no_items,
+  item,
+  Members,
+  no_members,
+  member,
+  get_member,
+}
 use Rattle.head_grammar.specs.declared.types.Field.{Field}
 use Rattle.apps.specs.declared.row.Row.{Row}
 
@@ -54,7 +90,8 @@ field _ = None
 -- ---- the keys of a row
 
 abbrev pub keys : List (List ℕ)
-keys = codes "path" ∷ codes "method" ∷ codes "status" ∷ codes "fields" ∷ codes "pieces" ∷ codes "whole" ∷ codes "length" ∷ codes "fail" ∷ []
+keys = codes "path" ∷ codes "method" ∷ codes "status" ∷ codes "fields" ∷ codes "pieces" ∷ codes
+    "whole" ∷ codes "length" ∷ codes "fail" ∷ []
 
 unfoldable pub is_key : List ℕ → Bool
 is_key key = list_any (bytes_eq key) keys
@@ -90,7 +127,8 @@ abbrev pub status : Members → Option (List ℕ)
 status ms = at_or text (codes "200 OK") (get_member (codes "status") ms)
 
 abbrev pub default_fields : List Field
-default_fields = record { name = codes "Content-Type"; value = codes "text/plain; charset=utf-8" } ∷ []
+default_fields = record { name = codes "Content-Type"; value = codes "text/plain; charset=utf-8" } ∷
+    []
 
 abbrev pub fields : Members → Option (List Field)
 fields ms = at_or (list_of field) default_fields (get_member (codes "fields") ms)

@@ -1,5 +1,23 @@
 -- The rows of a file, or what is wrong with it.
-use Rattle.std.specs.Prelude.{◌≡◌, ◌⊎◌, ℕ, suc, nat_le, List, [], ◌∷◌, length, codes, Option, None, Some, Result, Ok, Err, if◌then◌else◌}
+use Rattle.std.specs.Prelude.{
+  ◌≡◌,
+  ◌⊎◌,
+  ℕ,
+  suc,
+  nat_le,
+  List,
+  [],
+  ◌∷◌,
+  length,
+  codes,
+  Option,
+  None,
+  Some,
+  Result,
+  Ok,
+  Err,
+  if◌then◌else◌,
+}
 use Rattle.std.specs.Option.{ok_or}
 use Rattle.std.specs.Str.{bytes_eq, is_utf8}
 use Rattle.toml.specs.Data.{Members, no_members, member}
@@ -10,7 +28,8 @@ use Rattle.apps.specs.declared.fault.TableFault.{TableFault}
 use Rattle.apps.specs.declared.fault.TableFault.TheVariants as fault
 
 infixl 10 ◌>>=◌
-abbrev pub ◌>>=◌ : {A B : Type 0} → Result A TableFault → (A → Result B TableFault) → Result B TableFault
+abbrev pub ◌>>=◌ : {A B : Type 0} → Result A TableFault → (A → Result B TableFault) →
+    Result B TableFault
 (Ok x) >>= f = f x
 (Err e) >>= f = Err e
 
@@ -21,7 +40,8 @@ document bytes = if is_utf8 bytes then parse_document bytes else None
 -- the tables of a document: those of its one key `row`, or none where it has no key
 abbrev pub tables_of : Members → Option (List Members)
 tables_of no_members = Some []
-tables_of (member key d no_members) = if bytes_eq key (codes "row") then list_of table_in d else None
+tables_of (member key d no_members) = if bytes_eq key (codes "row") then list_of table_in d else
+    None
 tables_of _ = None
 
 -- their rows, or the place of the first that is bad, where the first of these has this place

@@ -4,5 +4,6 @@ use Rattle.std.proofs.Math.Nat.{le_of_eq}
 use Rattle.std.proofs.lemmas.List.{length-drop}
 use Rattle.wsgi.specs.declared.step.Step.{Step}
 
-pub rest_is_counted : (given : ℕ) (steps : List Step) → length (drop given steps) ≤ length steps - given
+pub rest_is_counted : (given : ℕ) (steps : List Step) → length (drop given steps) ≤ length steps
+    - given
 rest_is_counted given steps = le_of_eq (length-drop given steps)

@@ -1,5 +1,23 @@
 -- What a table answers.
-use Rattle.std.specs.Prelude.{ℕ, Bool, true, false, ◌&&◌, ◌||◌, List, [], ◌∷◌, ◌++◌, map, find, codes, Option, None, Some, if◌then◌else◌}
+use Rattle.std.specs.Prelude.{
+  ℕ,
+  Bool,
+  true,
+  false,
+  ◌&&◌,
+  ◌||◌,
+  List,
+  [],
+  ◌∷◌,
+  ◌++◌,
+  map,
+  find,
+  codes,
+  Option,
+  None,
+  Some,
+  if◌then◌else◌,
+}
 use Rattle.std.specs.Option.{option_map_or}
 use Rattle.std.specs.Str.{bytes_eq}
 use Rattle.head_grammar.specs.declared.types.Field.{Field}
@@ -32,11 +50,13 @@ behind_start row = map (body_step row.whole) row.pieces ++ failure row.fail
 abbrev pub row_script : Row → List Step
 row_script row = Start row.status (start_fields row) false ∷ behind_start row
 
--- a row answers the requests of its path and method, and one of GET those of HEAD too (RFC 9110, section 9.3.2)
+-- a row answers the requests of its path and method, and one of GET those of HEAD too (RFC 9110,
+-- section 9.3.2)
 abbrev pub answers : List ℕ → List ℕ → Row → Bool
 answers method path row =
     bytes_eq row.path path
-    && (bytes_eq row.method method || bytes_eq row.method (codes "GET") && bytes_eq method (codes "HEAD"))
+    && (bytes_eq row.method method || bytes_eq row.method (codes "GET") && bytes_eq method
+    (codes "HEAD"))
 
 -- the steps of a row, or of a response where there is none
 abbrev pub script_for : Option Row → List Step
@@ -45,4 +65,5 @@ script_for row = option_map_or row_script row not_found
 -- the first row that answers the request does
 abbrev pub table_script : List Row → List (List ℕ × List ℕ) → List ℕ → List Step
 table_script rows environ _ =
-    script_for (find (answers (variable (codes "REQUEST_METHOD") environ) (variable (codes "PATH_INFO") environ)) rows)
+    script_for (find (answers (variable (codes "REQUEST_METHOD") environ)
+    (variable (codes "PATH_INFO") environ)) rows)

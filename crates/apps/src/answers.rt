@@ -61,7 +61,8 @@ pub fn text_step(
     fields: Vec<Field>,
     text: &[u8],
 ) -> Result<Option<Step>, AllocError>
-    ensures { IfOk result (λ step. step ≡ slice_get (answers.text_script status.now fields.items text.now) place) }
+    ensures { IfOk result (λ step. step ≡ slice_get (answers.text_script status.now fields.items
+        text.now) place) }
 {
     match place {
         0 => Ok(Some(text_start(alloc, status, fields, text.len())?)),
@@ -76,7 +77,8 @@ fn text_start(
     fields: Vec<Field>,
     length: usize,
 ) -> Result<Step, AllocError>
-    ensures { IfOk result (λ step. step ≡ Start status.now (answers.text_fields fields.items length) false) }
+    ensures { IfOk result (λ step. step ≡ Start status.now (answers.text_fields fields.items length)
+        false) }
 {
     let mut fields = fields;
     add_text_fields(alloc, &mut fields, length)?;

@@ -28,7 +28,8 @@ pub fn document(alloc: Global, bytes: &[u8]) -> Result<Option<Table>, AllocError
 /// The tables under the one key of a document. One without a key has none.
 #[tactic(auto, using(crate::proofs::Documents::one_key, crate::proofs::Documents::more_keys))]
 pub fn tables(alloc: Global, document: Table) -> Result<Option<Vec<Table>>, AllocError>
-    ensures { IfOk result (λ found. option_map (λ all. map table_view all.items) found ≡ spec.tables_of (table_view document)) }
+    ensures { IfOk result (λ found. option_map (λ all. map table_view all.items)
+        found ≡ spec.tables_of (table_view document)) }
 {
     let mut rest = document;
     match rest.pop_first() {
@@ -46,7 +47,8 @@ pub fn tables(alloc: Global, document: Table) -> Result<Option<Vec<Table>>, Allo
 }
 
 fn tables_in(alloc: Global, value: Value) -> Result<Option<Vec<Table>>, AllocError>
-    ensures { IfOk result (λ found. option_map (λ all. map table_view all.items) found ≡ list_of table_in (view value)) }
+    ensures { IfOk result (λ found. option_map (λ all. map table_view all.items) found ≡ list_of
+        table_in (view value)) }
 {
     match value {
         Value::Array(list) => each_table(alloc, list),
@@ -55,7 +57,8 @@ fn tables_in(alloc: Global, value: Value) -> Result<Option<Vec<Table>>, AllocErr
 }
 
 fn each_table(alloc: Global, list: Array) -> Result<Option<Vec<Table>>, AllocError>
-    ensures { IfOk result (λ found. option_map (λ all. map table_view all.items) found ≡ each table_in (array_view list)) }
+    ensures { IfOk result (λ found. option_map (λ all. map table_view all.items) found ≡ each
+        table_in (array_view list)) }
 {
     let mut all = Vec::new(alloc);
     for value in list {

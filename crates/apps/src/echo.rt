@@ -38,7 +38,8 @@ impl<S: Spill + Send + Drop> App<S> for Echo {
         environ: Environ,
         body: OverflowBuffer<S>,
     ) -> Result<EchoRun<S>, NoMemory>
-        ensures script { IsTrue S.tells → IfOk result (λ run. rest_of run.start run.body.bytes ≡ echo_script environ body.bytes) }
+        ensures script { IsTrue S.tells → IfOk result (λ run.
+            rest_of run.start run.body.bytes ≡ echo_script environ body.bytes) }
         ensures spill { IfOk result (λ run. S.faults run.body.spill ≡ S.faults body.spill) }
     {
         match start(alloc, &environ, body.len()) {

@@ -81,7 +81,8 @@ impl Row {
     }
 
     fn start(&self, alloc: Global) -> Result<Step, AllocError>
-        ensures { IfOk result (λ step. step ≡ Start self.now.status (spec.start_fields self.now) false) }
+        ensures { IfOk result (λ step. step ≡ Start self.now.status (spec.start_fields self.now)
+            false) }
     {
         let mut fields = copies(alloc, self.fields.as_slice())?;
         add_length(alloc, &mut fields, self.length)?;

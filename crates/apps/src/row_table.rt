@@ -77,7 +77,8 @@ fn values_of(alloc: Global, table: &Table) -> Result<Option<Row>, AllocError>
 }
 
 fn value_at<'a>(table: &'a Table, key: &str) -> Option<&'a Value>
-    ensures { option_map (λ value. view value.now) result ≡ get_member key.now (table_view table.now) }
+    ensures { option_map (λ value. view value.now) result ≡ get_member key.now
+        (table_view table.now) }
 {
     table.get(key)
 }

@@ -1,5 +1,19 @@
 //! The application that answers by a table of rows.
-ghost use Rattle.std.specs.Prelude.{◌≡◌, ◌≢◌, ◌<◌, ◌^◌, ◌-◌, true, length, slice_get, drop, find, option_copied, IfOk, Err};
+ghost use Rattle.std.specs.Prelude.{
+  ◌≡◌,
+  ◌≢◌,
+  ◌<◌,
+  ◌^◌,
+  ◌-◌,
+  true,
+  length,
+  slice_get,
+  drop,
+  find,
+  option_copied,
+  IfOk,
+  Err,
+};
 ghost use Rattle.apps.specs.Table.{table_of, IsOrLacksMemory};
 ghost use Rattle.apps.specs.TableScript.{answers, script_for, table_script};
 ghost use Rattle.apps.specs.TableLaws.{rest_is_counted};
@@ -80,7 +94,8 @@ impl<S: Spill + Send + Drop> App<S> for TableApp {
         environ: Environ,
         body: OverflowBuffer<S>,
     ) -> Result<TableRun<S>, NoMemory>
-        ensures script { IfOk result (λ run. drop run.given (script_for run.row) ≡ table_script self.now environ body.bytes) }
+        ensures script { IfOk result (λ run. drop run.given (script_for run.row) ≡ table_script
+            self.now environ body.bytes) }
         ensures spill { IfOk result (λ run. S.faults run.spill ≡ S.faults body.spill) }
     {
         let method = variable(&environ, b"REQUEST_METHOD");

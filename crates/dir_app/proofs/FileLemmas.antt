@@ -1,5 +1,35 @@
 -- The steps of a file.
-use Rattle.std.proofs.Common.{◌≡◌, ◌≤◌, ◌<◌, ◌+◌, ◌-◌, ◌^◌, ◌∙◌, ℕ, Bool, true, false, cond, min, List, [], ◌∷◌, length, take, drop, Option, None, Some, Result, Ok, Err, refl, ap, sym, arith}
+use Rattle.std.proofs.Common.{
+  ◌≡◌,
+  ◌≤◌,
+  ◌<◌,
+  ◌+◌,
+  ◌-◌,
+  ◌^◌,
+  ◌∙◌,
+  ℕ,
+  Bool,
+  true,
+  false,
+  cond,
+  min,
+  List,
+  [],
+  ◌∷◌,
+  length,
+  take,
+  drop,
+  Option,
+  None,
+  Some,
+  Result,
+  Ok,
+  Err,
+  refl,
+  ap,
+  sym,
+  arith,
+}
 use Rattle.std.specs.Prelude.{nat_lt, option_map, unwrap_or, IfSome, IsSomeAnd}
 use Rattle.std.proofs.lemmas.Bool.{lt-ltb}
 use Rattle.std.proofs.lemmas.List.{drop_all, drop-drop, length-drop, take_min}
@@ -23,7 +53,8 @@ use Rattle.dir_app.specs.declared.file_steps.Progress.TheVariants.{Unseen, Found
 use Rattle.dir_app.specs.DirScript.{file_script, file_start, sizable}
 
 -- at the end of a file nothing is left
-pub found_over : (at size : ℕ) (file : Option (List ℕ)) → at ≡ size → option_map length file ≡ Some size →
+pub found_over : (at size : ℕ) (file : Option (List ℕ)) → at ≡ size →
+    option_map length file ≡ Some size →
     pieces (drop at (unwrap_or file [])) ≡ []
 found_over at size None over told = absurd (none-some size told)
 found_over at size (Some bytes) over told =
@@ -34,48 +65,61 @@ below_end : (at size : ℕ) → (at ≡ size → ⊥) → at ≤ size → at < s
 below_end at size some within = grind (arith, some)
 
 -- elsewhere a piece is, and what stands behind it
-pub found_step : (at size : ℕ) (file : Option (List ℕ)) (piece : List ℕ) → option_map length file ≡ Some size →
-    (at ≡ size → ⊥) → at ≤ size → IfSome file (λ bytes. piece ≡ take (min 32768 (size - at)) (drop at bytes)) →
+pub found_step : (at size : ℕ) (file : Option (List ℕ)) (piece : List ℕ) →
+    option_map length file ≡ Some size →
+    (at ≡ size → ⊥) → at ≤ size → IfSome file (λ bytes. piece ≡ take (min 32768 (size - at))
+    (drop at bytes)) →
     length piece ≡ min 32768 (size - at) →
-    pieces (drop at (unwrap_or file [])) ≡ Piece piece ∷ pieces (drop (at + length piece) (unwrap_or file []))
+    pieces (drop at (unwrap_or file [])) ≡ Piece piece ∷ pieces
+    (drop (at + length piece) (unwrap_or file []))
 found_step at size None piece told some within read counted = absurd (none-some size told)
 found_step at size (Some bytes) piece told some within read counted =
     let same : length bytes ≡ size = same_Some (length bytes) size told in
     let less : at < size = below_end at size some within in
     let left : length (drop at bytes) ≡ size - at = length-drop at bytes ∙ ap (λ n. n - at) same in
-    let count : length piece ≡ min 32768 (length (drop at bytes)) = counted ∙ ap (λ n. min 32768 n) (sym left) in
+    let count : length piece ≡ min 32768 (length (drop at bytes)) = counted ∙
+    ap (λ n. min 32768 n) (sym left) in
     let here : take 32768 (drop at bytes) ≡ piece =
-    sym (take_min 32768 (drop at bytes)) ∙ (ap (λ n. take (min 32768 n) (drop at bytes)) left ∙ sym read) in
+    sym (take_min 32768 (drop at bytes)) ∙ (ap (λ n. take (min 32768 n) (drop at bytes)) left ∙
+    sym read) in
     let behind : drop 32768 (drop at bytes) ≡ drop (at + length piece) bytes =
     sym (drop_min 32768 (length piece) (drop at bytes) count) ∙ drop-drop (length piece) at bytes in
     pieces-suc (drop at bytes) (omega arith)
-    ∙ (ap (λ (xs : List ℕ). Piece xs ∷ pieces (drop 32768 (drop at bytes))) here ∙ ap (λ (xs : List ℕ). Piece piece ∷ pieces xs) behind)
+    ∙ (ap (λ (xs : List ℕ). Piece xs ∷ pieces (drop 32768 (drop at bytes))) here ∙
+    ap (λ (xs : List ℕ). Piece piece ∷ pieces xs) behind)
 
 -- the size that was found is that of the content
-pub size_told : (file : Option (List ℕ)) (size : ℕ) → IsSomeAnd file (λ bytes. size ≡ length bytes) → option_map length file ≡ Some size
+pub size_told : (file : Option (List ℕ)) (size : ℕ) → IsSomeAnd file
+    (λ bytes. size ≡ length bytes) → option_map length file ≡ Some size
 size_told None size told = absurd told
 size_told (Some bytes) size told = ap Some (sym told)
 
-body_is : (bodyless : Bool) (bytes : List ℕ) (size at : ℕ) → length bytes ≡ size → at ≡ cond bodyless size 0 →
+body_is : (bodyless : Bool) (bytes : List ℕ) (size at : ℕ) → length bytes ≡ size →
+    at ≡ cond bodyless size 0 →
     cond bodyless [] (pieces bytes) ≡ pieces (drop at bytes)
 body_is true bytes size at same place = sym (ap pieces (drop_all at bytes (omega arith)))
 body_is false bytes size at same place = ap (λ n. pieces (drop n bytes)) (sym place)
 
 -- the head of a file that was found, and its content, which a HEAD doesn't get
-pub look_found : (bodyless : Bool) (media : List ℕ) (file : Option (List ℕ)) (size at : ℕ) → option_map length file ≡ Some size →
+pub look_found : (bodyless : Bool) (media : List ℕ) (file : Option (List ℕ)) (size at : ℕ) →
+    option_map length file ≡ Some size →
     size < 2 ^ 64 → at ≡ cond bodyless size 0 →
-    file_script bodyless media (sizable file) ≡ file_start media size ∷ pieces (drop at (unwrap_or file []))
+    file_script bodyless media (sizable file) ≡ file_start media size ∷ pieces
+    (drop at (unwrap_or file []))
 look_found bodyless media None size at told fits place = absurd (none-some size told)
 look_found bodyless media (Some bytes) size at told fits place =
     let same : length bytes ≡ size = same_Some (length bytes) size told in
-    let small : nat_lt (length bytes) (2 ^ 64) ≡ true = lt-ltb (length bytes) (2 ^ 64) (omega arith) in
+    let small : nat_lt (length bytes) (2 ^ 64) ≡ true = lt-ltb (length bytes) (2 ^ 64) (omega arith)
+    in
     ap (λ (t : Bool). file_script bodyless media (cond t (Some bytes) None)) small
     ∙ (ap (λ (n : ℕ). file_start media n ∷ cond bodyless [] (pieces bytes)) same
-    ∙ ap (λ (steps : List Step). file_start media size ∷ steps) (body_is bodyless bytes size at same place))
+    ∙ ap (λ (steps : List Step). file_start media size ∷ steps)
+    (body_is bodyless bytes size at same place))
 
 pub look_missing : (bodyless : Bool) (media : List ℕ) (file : Option (List ℕ)) → file ≡ None →
     file_script bodyless media (sizable file) ≡ not_found
-look_missing bodyless media file none = ap (λ (f : Option (List ℕ)). file_script bodyless media (sizable f)) none
+look_missing bodyless media file none = ap (λ (f : Option (List ℕ)).
+    file_script bodyless media (sizable f)) none
 
 pub found_within : (progress : Progress) (at size : ℕ) → progress ≡ Found at size →
     ForSome (size_of progress) (λ size. place_of progress ≤ size) → at ≤ size
@@ -85,31 +129,43 @@ found_within progress at size found within =
     omega arith
 
 -- a fault leaves the steps, of which there are some
-fault_keeps : (result : Result (Option Step) RunFault) (old new : List Step) → IsErr result → (old ≡ [] → ⊥) → new ≡ old → TakesStep result old new
+fault_keeps : (result : Result (Option Step) RunFault) (old new : List Step) → IsErr result →
+    (old ≡ [] → ⊥) → new ≡ old → TakesStep result old new
 fault_keeps (Err Outside) old new failed some same = (some, same)
 fault_keeps (Err Spill) old new failed some same = (some, same)
 fault_keeps (Err NoMemory) old new failed some same = same
 fault_keeps (Ok step) old new failed some same = grind (arith, failed)
 
-some_script : (bodyless : Bool) (media : List ℕ) (bytes : List ℕ) (t : Bool) → file_script bodyless media (cond t (Some bytes) None) ≡ [] → ⊥
+some_script : (bodyless : Bool) (media : List ℕ) (bytes : List ℕ) (t : Bool) →
+    file_script bodyless media (cond t (Some bytes) None) ≡ [] → ⊥
 some_script bodyless media bytes true e = grind (arith, ap length e)
-some_script bodyless media bytes false e = let none = ap length e in let two = length-steps_of NotFound in omega arith
+some_script bodyless media bytes false e = let none = ap length e in let two =
+    length-steps_of NotFound in omega arith
 
-script_some : (bodyless : Bool) (media : List ℕ) (file : Option (List ℕ)) → file_script bodyless media (sizable file) ≡ [] → ⊥
-script_some bodyless media None e = let none = ap length e in let two = length-steps_of NotFound in omega arith
-script_some bodyless media (Some bytes) e = some_script bodyless media bytes (nat_lt (length bytes) (2 ^ 64)) e
+script_some : (bodyless : Bool) (media : List ℕ) (file : Option (List ℕ)) →
+    file_script bodyless media (sizable file) ≡ [] → ⊥
+script_some bodyless media None e = let none = ap length e in let two =
+    length-steps_of NotFound in omega arith
+script_some bodyless media (Some bytes) e = some_script bodyless media bytes
+    (nat_lt (length bytes) (2 ^ 64)) e
 
-pub unseen_fault : (bodyless : Bool) (media : List ℕ) (file new : Option (List ℕ)) (progress : Progress) (result : Result (Option Step) RunFault) →
+pub unseen_fault : (bodyless : Bool) (media : List ℕ) (file new : Option (List ℕ))
+    (progress : Progress) (result : Result (Option Step) RunFault) →
     progress ≡ Unseen → IsErr result → new ≡ file →
-    TakesStep result (file_rest bodyless media file progress) (file_rest bodyless media new progress)
+    TakesStep result (file_rest bodyless media file progress)
+    (file_rest bodyless media new progress)
 unseen_fault bodyless media file new progress result unseen failed same =
-    rw unseen (rw same (fault_keeps result (file_script bodyless media (sizable file)) (file_script bodyless media (sizable file)) failed (script_some bodyless media file) refl))
+    rw unseen (rw same (fault_keeps result (file_script bodyless media (sizable file))
+    (file_script bodyless media (sizable file)) failed (script_some bodyless media file) refl))
 
-found_told : (progress : Progress) (at size : ℕ) (file : Option (List ℕ)) → progress ≡ Found at size →
-    ForSome (size_of progress) (λ size. option_map length file ≡ Some size) → option_map length file ≡ Some size
+found_told : (progress : Progress) (at size : ℕ) (file : Option (List ℕ)) →
+    progress ≡ Found at size →
+    ForSome (size_of progress) (λ size. option_map length file ≡ Some size) →
+    option_map length file ≡ Some size
 found_told progress at size file found told = told size (ap size_of found)
 
-found_some : (at size : ℕ) (file : Option (List ℕ)) → option_map length file ≡ Some size → (at ≡ size → ⊥) → at ≤ size →
+found_some : (at size : ℕ) (file : Option (List ℕ)) → option_map length file ≡ Some size →
+    (at ≡ size → ⊥) → at ≤ size →
     pieces (drop at (unwrap_or file [])) ≡ [] → ⊥
 found_some at size None told some within e = none-some size told
 found_some at size (Some bytes) told some within e =
@@ -120,30 +176,43 @@ found_some at size (Some bytes) told some within e =
     let left = length-drop at bytes in
     omega arith
 
-pub found_fault : (bodyless : Bool) (media : List ℕ) (file new : Option (List ℕ)) (progress : Progress) (at size : ℕ) (result : Result (Option Step) RunFault) →
-    progress ≡ Found at size → ForSome (size_of progress) (λ size. option_map length file ≡ Some size) → (at ≡ size → ⊥) → at ≤ size →
+pub found_fault : (bodyless : Bool) (media : List ℕ) (file new : Option (List ℕ))
+    (progress : Progress) (at size : ℕ) (result : Result (Option Step) RunFault) →
+    progress ≡ Found at size → ForSome (size_of progress)
+    (λ size. option_map length file ≡ Some size) → (at ≡ size → ⊥) → at ≤ size →
     IsErr result → new ≡ file →
-    TakesStep result (file_rest bodyless media file progress) (file_rest bodyless media new progress)
+    TakesStep result (file_rest bodyless media file progress)
+    (file_rest bodyless media new progress)
 found_fault bodyless media file new progress at size result found told some within failed same =
     let known : option_map length file ≡ Some size = found_told progress at size file found told in
-    rw found (rw same (fault_keeps result (pieces (drop at (unwrap_or file []))) (pieces (drop at (unwrap_or file []))) failed (found_some at size file known some within) refl))
+    rw found (rw same (fault_keeps result (pieces (drop at (unwrap_or file [])))
+    (pieces (drop at (unwrap_or file []))) failed (found_some at size file known some within)
+    refl))
 
-pub found_end : (bodyless : Bool) (media : List ℕ) (file : Option (List ℕ)) (progress : Progress) (at size : ℕ) →
-    progress ≡ Found at size → ForSome (size_of progress) (λ size. option_map length file ≡ Some size) → at ≡ size →
+pub found_end : (bodyless : Bool) (media : List ℕ) (file : Option (List ℕ)) (progress : Progress)
+    (at size : ℕ) →
+    progress ≡ Found at size → ForSome (size_of progress)
+    (λ size. option_map length file ≡ Some size) → at ≡ size →
     file_rest bodyless media file progress ≡ []
 found_end bodyless media file progress at size found told over =
     let known : option_map length file ≡ Some size = found_told progress at size file found told in
     rw found (found_over at size file over known)
 
-pub found_next : (bodyless : Bool) (media : List ℕ) (file new : Option (List ℕ)) (progress : Progress) (at size count : ℕ) (piece : List ℕ) →
-    progress ≡ Found at size → ForSome (size_of progress) (λ size. option_map length file ≡ Some size) → (at ≡ size → ⊥) → at ≤ size →
-    IfSome file (λ bytes. piece ≡ take (min 32768 (size - at)) (drop at bytes)) → length piece ≡ min 32768 (size - at) → count ≡ length piece → new ≡ file →
-    file_rest bodyless media file progress ≡ Piece piece ∷ pieces (drop (at + count) (unwrap_or new []))
-found_next bodyless media file new progress at size count piece found told some within read counted whole same =
+pub found_next : (bodyless : Bool) (media : List ℕ) (file new : Option (List ℕ))
+    (progress : Progress) (at size count : ℕ) (piece : List ℕ) →
+    progress ≡ Found at size → ForSome (size_of progress)
+    (λ size. option_map length file ≡ Some size) → (at ≡ size → ⊥) → at ≤ size →
+    IfSome file (λ bytes. piece ≡ take (min 32768 (size - at)) (drop at bytes)) →
+    length piece ≡ min 32768 (size - at) → count ≡ length piece → new ≡ file →
+    file_rest bodyless media file progress ≡ Piece piece ∷ pieces
+    (drop (at + count) (unwrap_or new []))
+found_next bodyless media file new progress at size count piece found told some within read counted
+    whole same =
     let known : option_map length file ≡ Some size = found_told progress at size file found told in
     rw found (rw same (rw whole (found_step at size file piece known some within read counted)))
 
-pub found_falls : (progress : Progress) (at size count : ℕ) → progress ≡ Found at size → (at ≡ size → ⊥) → at ≤ size →
+pub found_falls : (progress : Progress) (at size count : ℕ) → progress ≡ Found at size →
+    (at ≡ size → ⊥) → at ≤ size →
     count ≡ min 32768 (size - at) → piece_count (size - (at + count)) < file_left progress
 found_falls progress at size count found some within counted =
     let less : at < size = below_end at size some within in

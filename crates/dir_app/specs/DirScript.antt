@@ -1,5 +1,22 @@
 -- What a directory answers.
-use Rattle.std.specs.Prelude.{ℕ, Bool, true, false, ◌^◌, nat_lt, List, [], ◌∷◌, ◌++◌, length, codes, Option, None, Some, if◌then◌else◌}
+use Rattle.std.specs.Prelude.{
+  ℕ,
+  Bool,
+  true,
+  false,
+  ◌^◌,
+  nat_lt,
+  List,
+  [],
+  ◌∷◌,
+  ◌++◌,
+  length,
+  codes,
+  Option,
+  None,
+  Some,
+  if◌then◌else◌,
+}
 use Rattle.std.specs.Str.{bytes_eq}
 use Rattle.outside.specs.Tree.{content_of}
 use Rattle.wsgi.specs.declared.step.Step.{Step}
@@ -24,19 +41,22 @@ sizable (Some bytes) = if nat_lt (length bytes) (2 ^ 64) then Some bytes else No
 -- a file of this media type, whose content a HEAD doesn't get (RFC 9110, section 9.3.2)
 abbrev pub file_script : Bool → List ℕ → Option (List ℕ) → List Step
 file_script bodyless media None = not_found
-file_script bodyless media (Some bytes) = file_start media (length bytes) ∷ (if bodyless then [] else pieces bytes)
+file_script bodyless media (Some bytes) = file_start media (length bytes) ∷
+    (if bodyless then [] else pieces bytes)
 
 -- the file of a path below the root
 abbrev pub path_script : List (List ℕ × List ℕ) → List ℕ → Bool → List ℕ → List Step
 path_script files root bodyless path =
-    file_script bodyless (media_type (last_part path)) (sizable (content_of files (root ++ path_of path)))
+    file_script bodyless (media_type (last_part path)) (sizable
+    (content_of files (root ++ path_of path)))
 
 abbrev pub name_script : List (List ℕ × List ℕ) → List ℕ → Bool → List ℕ → List Step
 name_script files root bodyless path =
     if stays_below path then path_script files root bodyless path else not_found
 
 -- GET and HEAD alone are answered, by the file that the path of the request names
-abbrev pub dir_script : List (List ℕ × List ℕ) → List ℕ → List (List ℕ × List ℕ) → List ℕ → List Step
+abbrev pub dir_script : List (List ℕ × List ℕ) → List ℕ → List (List ℕ × List ℕ) → List ℕ →
+    List Step
 dir_script files root environ _ =
     let method = variable (codes "REQUEST_METHOD") environ in
     let path = rooted (variable (codes "PATH_INFO") environ) in

@@ -1,5 +1,26 @@
 -- The steps that are left are as many as is said.
-use Rattle.std.specs.Prelude.{◌≡◌, ◌≤◌, ◌+◌, ◌-◌, ◌^◌, ℕ, Bool, true, false, List, [], Option, None, Some, length, drop, nat_lt, option_map, unwrap_or, refl}
+use Rattle.std.specs.Prelude.{
+  ◌≡◌,
+  ◌≤◌,
+  ◌+◌,
+  ◌-◌,
+  ◌^◌,
+  ℕ,
+  Bool,
+  true,
+  false,
+  List,
+  [],
+  Option,
+  None,
+  Some,
+  length,
+  drop,
+  nat_lt,
+  option_map,
+  unwrap_or,
+  refl,
+}
 use Rattle.std.specs.Option.{ForSome}
 use Rattle.std.proofs.Common.{◌∙◌, ap, cond, arith}
 use Rattle.std.proofs.Math.Nat.{le_of_eq}
@@ -35,9 +56,11 @@ content_is_counted false bytes small =
     let counted = length-pieces bytes in
     omega arith
 
-some_is_counted : (bodyless : Bool) (media : List ℕ) (bytes : List ℕ) (fits : Bool) → nat_lt (length bytes) (2 ^ 64) ≡ fits →
+some_is_counted : (bodyless : Bool) (media : List ℕ) (bytes : List ℕ) (fits : Bool) →
+    nat_lt (length bytes) (2 ^ 64) ≡ fits →
     length (file_script bodyless media (cond fits (Some bytes) None)) ≤ 2 ^ 49 + 1
-some_is_counted bodyless media bytes true fits = let content = content_is_counted bodyless bytes fits in omega arith
+some_is_counted bodyless media bytes true fits = let content =
+    content_is_counted bodyless bytes fits in omega arith
 some_is_counted bodyless media bytes false fits = let two = length-steps_of NotFound in omega arith
 
 script_is_counted : (bodyless : Bool) (media : List ℕ) (file : Option (List ℕ)) →
@@ -51,17 +74,20 @@ found_is_counted : (at size : ℕ) (file : Option (List ℕ)) → option_map len
 found_is_counted at size None told = absurd (none-some size told)
 found_is_counted at size (Some bytes) told =
     let same : length bytes ≡ size = same_Some (length bytes) size told in
-    le_of_eq (length-pieces (drop at bytes) ∙ ap piece_count (length-drop at bytes ∙ ap (λ n. n - at) same))
+    le_of_eq (length-pieces (drop at bytes) ∙ ap piece_count
+    (length-drop at bytes ∙ ap (λ n. n - at) same))
 
 pub text_is_counted : (text : TextSteps) → length (rest_of text) ≤ left_of text
 text_is_counted text = le_of_eq (length-drop text.given (steps_of text.text))
 
-pub file_is_counted : (bodyless : Bool) (media : List ℕ) (file : Option (List ℕ)) (progress : Progress) →
+pub file_is_counted : (bodyless : Bool) (media : List ℕ) (file : Option (List ℕ))
+    (progress : Progress) →
     ForSome (size_of progress) (λ size. option_map length file ≡ Some size) →
     length (file_rest bodyless media file progress) ≤ file_left progress
 file_is_counted bodyless media file Unseen told = script_is_counted bodyless media file
 file_is_counted bodyless media file (Missing text) told = text_is_counted text
-file_is_counted bodyless media file (Found at size) told = found_is_counted at size file (told size refl)
+file_is_counted bodyless media file (Found at size) told =
+    found_is_counted at size file (told size refl)
 
 pub answer_is_counted : {F : Type 0} (rest : F → List Step) (left : F → ℕ) →
     ((steps : F) → length (rest steps) ≤ left steps) → (answer : Answer F) →

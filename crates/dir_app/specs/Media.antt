@@ -40,7 +40,8 @@ suffix name = if list_any is_dot name then after_last is_dot name else []
 -- letters of either case are the same in a suffix
 abbrev pub type_of_suffix : List ℕ → List ℕ
 type_of_suffix end =
-    option_map_or (λ row. row.1) (find (λ row. str_eq_ignore_ascii_case row.0 end) media_rows) unknown_type
+    option_map_or (λ row. row.1) (find (λ row. str_eq_ignore_ascii_case row.0 end) media_rows)
+    unknown_type
 
 unfoldable pub media_type : List ℕ → List ℕ
 media_type name = type_of_suffix (suffix name)

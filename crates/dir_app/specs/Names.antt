@@ -1,6 +1,24 @@
--- Which files a path may name. No name leads out of the root by its words: no part is "." or "..", none has a
+-- Which files a path may name. No name leads out of the root by its words: no part is "." or "..",
+-- none has a
 -- NUL or a "\", and none but the last is empty.
-use Rattle.std.specs.Prelude.{ℕ, Bool, true, not, ◌&&◌, ◌||◌, ◌==◌, nat_lt, List, [], ◌∷◌, ◌++◌, length, drop, codes, slice_index}
+use Rattle.std.specs.Prelude.{
+  ℕ,
+  Bool,
+  true,
+  not,
+  ◌&&◌,
+  ◌||◌,
+  ◌==◌,
+  nat_lt,
+  List,
+  [],
+  ◌∷◌,
+  ◌++◌,
+  length,
+  drop,
+  codes,
+  slice_index,
+}
 use Rattle.std.specs.List.{after_last, list_any, slice_split}
 use Rattle.std.specs.Str.{bytes_eq, is_utf8}
 
@@ -23,7 +41,8 @@ is_forbidden b = b == 0 || b == 92
 -- a part leads neither to its own folder nor to the one above
 abbrev pub is_name : List ℕ → Bool
 is_name part =
-    not (bytes_eq part (codes ".")) && not (bytes_eq part (codes "..")) && not (list_any is_forbidden part)
+    not (bytes_eq part (codes ".")) && not (bytes_eq part (codes "..")) && not
+    (list_any is_forbidden part)
 
 -- it isn't empty, "." or "..", and has no NUL and no "\"
 abbrev pub leads_down : List ℕ → Bool

@@ -40,7 +40,8 @@ impl<'a, T: Tree, S: Spill + Send + Drop> App<S> for DirApp<'a, T> {
 
     ghost tells = { T.tells && T.Entry.tells };
 
-    ghost script = { λ directory. dir_script (T.files directory.tree.now) (string_bytes directory.root) };
+    ghost script = { λ directory. dir_script (T.files directory.tree.now)
+        (string_bytes directory.root) };
 
     ghost run_tells = { λ told. second_tells T.tells T.Entry.tells told };
 
@@ -50,11 +51,15 @@ impl<'a, T: Tree, S: Spill + Send + Drop> App<S> for DirApp<'a, T> {
         environ: Environ,
         body: OverflowBuffer<S>,
     ) -> Result<DirRun<T::Entry, S>, NoMemory>
-        ensures script { IsTrue (T.tells && T.Entry.tells) → IfOk result (λ run. answer_by text.rest_of
-            (λ steps. file.file_rest steps.bodyless steps.media.now (T.Entry.file steps.entry) steps.progress) run.answer
-            ≡ dir_script (T.files self.now.tree.now) (string_bytes self.now.root) environ body.bytes) }
+        ensures script { IsTrue (T.tells && T.Entry.tells) →
+            IfOk result (λ run. answer_by text.rest_of
+            (λ steps. file.file_rest steps.bodyless steps.media.now (T.Entry.file steps.entry)
+            steps.progress) run.answer
+            ≡ dir_script (T.files self.now.tree.now) (string_bytes self.now.root) environ
+            body.bytes) }
         ensures faultless { IfOk result (λ run.
-            option_map_or T.Entry.faults (answer_by (λ _. None) (λ steps. Some steps.entry) run.answer) 0 ≡ 0) }
+            option_map_or T.Entry.faults (answer_by (λ _. None) (λ steps. Some steps.entry)
+            run.answer) 0 ≡ 0) }
         ensures spill { IfOk result (λ run. S.faults run.spill ≡ S.faults body.spill) }
     {
         let Ok(asked) = asked_for(alloc, self.root.as_str(), &environ) else {

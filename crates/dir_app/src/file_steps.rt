@@ -1,5 +1,23 @@
 //! The steps of a file.
-ghost use Rattle.std.specs.Prelude.{◌≡◌, ◌≤◌, ◌<◌, ◌-◌, ◌^◌, ◌+◌, ◌∷◌, ℕ, IsTrue, Some, min, take, drop, IfOk, IfSome, length, option_map};
+ghost use Rattle.std.specs.Prelude.{
+  ◌≡◌,
+  ◌≤◌,
+  ◌<◌,
+  ◌-◌,
+  ◌^◌,
+  ◌+◌,
+  ◌∷◌,
+  ℕ,
+  IsTrue,
+  Some,
+  min,
+  take,
+  drop,
+  IfOk,
+  IfSome,
+  length,
+  option_map,
+};
 ghost use Rattle.std.specs.Option.{ForSome};
 ghost use Rattle.wsgi.specs.Run.{FallsWithStep, RunCause, TakesStep};
 ghost use Rattle.dir_app.specs.DirScript as script;
@@ -39,11 +57,15 @@ pub struct FileSteps<E: TreeEntry> {
 impl<E: TreeEntry> FileSteps<E> {
     /// The next step, or `None` behind the last one.
     pub fn next(&mut self, alloc: Global) -> Result<Option<Step>, RunFault>
-        ensures cause { (s : ℕ) → RunCause result (E.faults self.old.entry) (E.faults self.new.entry) s s }
+        ensures cause { (s : ℕ) → RunCause result (E.faults self.old.entry)
+            (E.faults self.new.entry) s s }
         ensures steps { IsTrue E.tells → TakesStep result
-            (spec.file_rest self.old.bodyless self.old.media.now (E.file self.old.entry) self.old.progress)
-            (spec.file_rest self.new.bodyless self.new.media.now (E.file self.new.entry) self.new.progress) }
-        ensures left { FallsWithStep result (spec.file_left self.old.progress) (spec.file_left self.new.progress) }
+            (spec.file_rest self.old.bodyless self.old.media.now (E.file self.old.entry)
+            self.old.progress)
+            (spec.file_rest self.new.bodyless self.new.media.now (E.file self.new.entry)
+            self.new.progress) }
+        ensures left { FallsWithStep result (spec.file_left self.old.progress)
+            (spec.file_left self.new.progress) }
     {
         match self.progress {
             Progress::Unseen => {
@@ -92,9 +114,12 @@ fn look<E: TreeEntry>(
 ) -> Result<(Step, Progress), RunFault>
     ensures cause { (s : ℕ) → RunCause result (E.faults entry.old) (E.faults entry.new) s s }
     ensures file { IsTrue E.tells → E.file entry.new ≡ E.file entry.old }
-    ensures sized { IfOk result (λ found. ForSome (spec.size_of found.1) (λ size. E.sized entry.new ≡ Some size)) }
-    ensures within { IfOk result (λ found. ForSome (spec.size_of found.1) (λ size. spec.place_of found.1 ≤ size)) }
-    ensures told { IsTrue E.tells → IfOk result (λ found. ForSome (spec.size_of found.1) (λ size. option_map length (E.file entry.old) ≡ Some size)) }
+    ensures sized { IfOk result (λ found. ForSome (spec.size_of found.1)
+        (λ size. E.sized entry.new ≡ Some size)) }
+    ensures within { IfOk result (λ found. ForSome (spec.size_of found.1)
+        (λ size. spec.place_of found.1 ≤ size)) }
+    ensures told { IsTrue E.tells → IfOk result (λ found.
+        ForSome (spec.size_of found.1) (λ size. option_map length (E.file entry.old) ≡ Some size)) }
     ensures steps { IsTrue E.tells → IfOk result (λ found.
         script.file_script bodyless media.entry.now (script.sizable (E.file entry.old))
         ≡ found.0 ∷ spec.file_rest bodyless media.entry.now (E.file entry.old) found.1) }

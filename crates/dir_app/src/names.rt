@@ -1,5 +1,22 @@
 //! The files that paths name.
-ghost use Rattle.std.specs.Prelude.{◌≡◌, ◌==◌, ◌<◌, ◌++◌, ◌∷◌, [], None, Some, length, option_copied, position, string_bytes, IfNone, IfOk, IfSome, if◌then◌else◌};
+ghost use Rattle.std.specs.Prelude.{
+  ◌≡◌,
+  ◌==◌,
+  ◌<◌,
+  ◌++◌,
+  ◌∷◌,
+  [],
+  None,
+  Some,
+  length,
+  option_copied,
+  position,
+  string_bytes,
+  IfNone,
+  IfOk,
+  IfSome,
+  if◌then◌else◌,
+};
 ghost use Rattle.std.specs.List.{after_last, list_any, slice_split};
 ghost use Rattle.std.specs.Str.{is_utf8};
 ghost use Rattle.dir_app.specs.Names as spec;
@@ -56,7 +73,8 @@ fn are_names(parts: &[u8]) -> bool
 
 // What stands in front of the first slash, and behind it.
 fn cut(text: &[u8]) -> Option<(&[u8], &[u8])>
-    ensures parts { IfSome result (λ parts. slice_split spec.is_slash text.now ≡ parts.0.now ∷ slice_split spec.is_slash parts.1.now) }
+    ensures parts { IfSome result (λ parts. slice_split spec.is_slash text.now ≡ parts.0.now ∷
+        slice_split spec.is_slash parts.1.now) }
     ensures shorter { IfSome result (λ parts. length parts.1.now < length text.now) }
     ensures whole { IfNone result (slice_split spec.is_slash text.now ≡ text.now ∷ []) }
 {

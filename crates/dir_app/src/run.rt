@@ -55,7 +55,8 @@ impl<E: TreeEntry + Drop, S: Spill> AppRun<S> for DirRun<E, S> {
 
     ghost left = { λ run. answer_by text.left_of (λ steps. file.file_left steps.progress) run.answer };
 
-    ghost faults = { λ run. option_map_or E.faults (answer_by (λ _. None) (λ steps. Some steps.entry) run.answer) 0 };
+    ghost faults = { λ run. option_map_or E.faults (answer_by (λ _. None)
+        (λ steps. Some steps.entry) run.answer) 0 };
 
     ghost spill_faults = { λ run. S.faults run.spill };
 
@@ -72,7 +73,8 @@ impl<E: TreeEntry + Drop, S: Spill> AppRun<S> for DirRun<E, S> {
     }
 
     fn left(&self) -> u64
-        ensures left { result ≡ answer_by text.left_of (λ steps. file.file_left steps.progress) self.now.answer }
+        ensures left { result ≡ answer_by text.left_of (λ steps. file.file_left steps.progress)
+            self.now.answer }
         ensures below { result < 2 ^ 62 }
     {
         match &self.answer {

@@ -43,8 +43,10 @@ impl TextSteps {
     /// The next step, or `None` behind the last one.
     #[tactic(auto, using(crate::proofs::TextLemmas::get_taken, crate::proofs::TextLemmas::get_over, crate::proofs::TextLemmas::place_within))]
     pub fn next(&mut self, alloc: Global) -> Result<Option<Step>, AllocError>
-        ensures steps { IfOk result (λ step. TakesStep (Ok step) (spec.rest_of self.old) (spec.rest_of self.new)) }
-        ensures left { IfOk result (λ step. FallsWithStep (Ok step) (spec.left_of self.old) (spec.left_of self.new)) }
+        ensures steps { IfOk result (λ step. TakesStep (Ok step) (spec.rest_of self.old)
+            (spec.rest_of self.new)) }
+        ensures left { IfOk result (λ step. FallsWithStep (Ok step) (spec.left_of self.old)
+            (spec.left_of self.new)) }
         ensures kept { OnErr result (self.new ≡ self.old) }
     {
         match step_of(alloc, self.text, self.given)? {

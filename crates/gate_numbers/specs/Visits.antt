@@ -7,6 +7,7 @@ has_any [] = false
 has_any (x ∷ xs) = true
 
 -- an end has had a turn where it has an entry
-pub record IsVisitedBy (s : Visited) (left : List (Unit {0})) (right : List (Unit {0})) : Type 0 where
-  pub by_left : s.left ≡ has_any left
-  pub by_right : s.right ≡ has_any right
+pub record IsVisitedBy (s : Visited) (left : List (Unit {0})) (right : List (Unit {0})) : Type 0
+  where
+    pub by_left : s.left ≡ has_any left
+    pub by_right : s.right ≡ has_any right

@@ -32,7 +32,8 @@ impl Pact for Visits {
     ghost fixed = { λ _. tt };
 }
 
-/// A turn of the left end, which says whether the right end had one before. `None` where the gate was held.
+/// A turn of the left end, which says whether the right end had one before. `None` where the gate
+/// was held.
 #[tactic(auto, using(crate::proofs::Visiting::left_visits, turn_gate::proofs::Turns::turn_made))]
 pub fn visit_left(left: &mut Left<Visits>) -> Option<bool>
     requires { left.old.has ≡ false }
@@ -65,7 +66,8 @@ pub fn visit_right<W: Wait>(rt: &W, right: &mut Right<Visits>) -> bool
     before
 }
 
-/// What the left end finds while the right end has its turn, and after it. `None` where the gate was held.
+/// What the left end finds while the right end has its turn, and after it. `None` where the gate
+/// was held.
 #[tactic(auto, using(crate::proofs::Visiting::right_visits))]
 pub fn visit_meanwhile(
     left: &mut Left<Visits>,

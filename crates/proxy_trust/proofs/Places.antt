@@ -1,5 +1,21 @@
 -- The place of the first element that passes a test, and that element.
-use Rattle.std.proofs.Common.{◌≡◌, ℕ, Bool, true, false, List, length, get_or, None, Some, refl, sym, subst, ◌∙◌, cond}
+use Rattle.std.proofs.Common.{
+  ◌≡◌,
+  ℕ,
+  Bool,
+  true,
+  false,
+  List,
+  length,
+  get_or,
+  None,
+  Some,
+  refl,
+  sym,
+  subst,
+  ◌∙◌,
+  cond,
+}
 use Rattle.std.specs.Prelude.{find, nat_lt, position}
 use Rattle.std.specs.List.{position_or_len}
 use Rattle.std.proofs.lemmas.Bool.{ltb-true, ltb-false}
@@ -14,10 +30,12 @@ by_no_test : (t : Bool) (n : ℕ) → cond t (Some n) None ≡ None → t ≡ fa
 by_no_test true n e = cc
 by_no_test false n e = refl
 
-pub found : {X : Type 0} (p : X → Bool) (xs : List X) (k : ℕ) (x : X) → position p xs ≡ Some k → x ≡ get_or xs k x → Some x ≡ find p xs
+pub found : {X : Type 0} (p : X → Bool) (xs : List X) (k : ℕ) (x : X) → position p xs ≡ Some k →
+    x ≡ get_or xs k x → Some x ≡ find p xs
 found p xs k x e r =
     let at = by_test (nat_lt (position_or_len p xs) (length xs)) (position_or_len p xs) k e in
-    sym (find_at p xs ∙ slice_get_read xs (length xs) (position_or_len p xs) x refl (ltb-true _ _ at.0) (subst (λ n. x ≡ get_or xs n x) (sym at.1) r))
+    sym (find_at p xs ∙ slice_get_read xs (length xs) (position_or_len p xs) x refl
+    (ltb-true _ _ at.0) (subst (λ n. x ≡ get_or xs n x) (sym at.1) r))
 
 pub not_found : {X : Type 0} (p : X → Bool) (xs : List X) → position p xs ≡ None → None ≡ find p xs
 not_found p xs e =

@@ -1,5 +1,21 @@
 -- The fields of a request behind a proxy.
-use Rattle.std.specs.Prelude.{ℕ, Bool, ◌&&◌, List, [], ◌∷◌, ◌++◌, codes, find, Option, None, Some, option_map, option_to_list, if◌then◌else◌}
+use Rattle.std.specs.Prelude.{
+  ℕ,
+  Bool,
+  ◌&&◌,
+  List,
+  [],
+  ◌∷◌,
+  ◌++◌,
+  codes,
+  find,
+  Option,
+  None,
+  Some,
+  option_map,
+  option_to_list,
+  if◌then◌else◌,
+}
 use Rattle.std.specs.List.{position_or_len, remove}
 use Rattle.head_grammar.specs.FieldLines.{has_name}
 use Rattle.head_grammar.specs.declared.types.Field.{Field}
@@ -10,7 +26,8 @@ host_name = codes "host"
 
 -- a new field, where there is a value for it
 abbrev pub new_field : List ℕ → Option (List ℕ) → List Field
-new_field name value = option_to_list (option_map (λ value. record { name = name; value = value }) value)
+new_field name value = option_to_list (option_map (λ value. record { name = name; value = value })
+    value)
 
 -- fields without the first one of this name
 abbrev pub without : List ℕ → List Field → List Field

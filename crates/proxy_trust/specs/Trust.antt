@@ -1,5 +1,20 @@
 -- What is believed of the headers of proxies.
-use Rattle.std.specs.Prelude.{ℕ, Bool, List, ◌++◌, codes, Option, None, Some, option_map, option_and_then, Result, Ok, Err, if◌then◌else◌}
+use Rattle.std.specs.Prelude.{
+  ℕ,
+  Bool,
+  List,
+  ◌++◌,
+  codes,
+  Option,
+  None,
+  Some,
+  option_map,
+  option_and_then,
+  Result,
+  Ok,
+  Err,
+  if◌then◌else◌,
+}
 use Rattle.std.specs.Str.{str_eq_ignore_ascii_case}
 use Rattle.head_grammar.specs.declared.types.Field.{Field}
 use Rattle.outside.specs.declared.types.Kind.{Kind}
@@ -30,7 +45,8 @@ formed kind None = Err kind
 formed kind (Some a) = Ok (Some a)
 
 -- the same of a header that may be there or not
-abbrev pub read : {A : Type 0} → Kind → (List ℕ → Option A) → Option (List ℕ) → Result (Option A) Kind
+abbrev pub read : {A : Type 0} → Kind → (List ℕ → Option A) → Option (List ℕ) →
+    Result (Option A) Kind
 read kind form None = Ok None
 read kind form (Some value) = formed kind (form value)
 

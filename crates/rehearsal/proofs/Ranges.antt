@@ -1,5 +1,24 @@
 -- Lists as far as a loop has come.
-use Rattle.std.proofs.Common.{◌≡◌, ◌+◌, ◌<◌, ◌≤◌, ◌^◌, ℕ, List, [], ◌∷◌, ◌++◌, length, map, ap, sym, ◌∙◌, append_assoc, append-nil, arith}
+use Rattle.std.proofs.Common.{
+  ◌≡◌,
+  ◌+◌,
+  ◌<◌,
+  ◌≤◌,
+  ◌^◌,
+  ℕ,
+  List,
+  [],
+  ◌∷◌,
+  ◌++◌,
+  length,
+  map,
+  ap,
+  sym,
+  ◌∙◌,
+  append_assoc,
+  append-nil,
+  arith,
+}
 use Rattle.std.proofs.lemmas.List.Folds.{concat-append}
 use Rattle.std.proofs.lemmas.List.FromFn.{length-map-range_with_len, map-range_with_len_more}
 use Rattle.std.specs.List.{concat, range_with_len}
@@ -24,7 +43,8 @@ pub joined_more : (f : ℕ → List ℕ) (n : ℕ) (front new : List ℕ) → ne
 joined_more f n front new made so =
     made ∙ (ap (λ ys. ys ++ f n) so
     ∙ (ap (λ ys. concat (map f (range_with_len 0 n)) ++ ys) (sym (append-nil (f n)))
-    ∙ (sym (concat-append (map f (range_with_len 0 n)) (f n ∷ [])) ∙ ap concat (sym (mapped_more f n)))))
+    ∙ (sym (concat-append (map f (range_with_len 0 n)) (f n ∷ [])) ∙
+    ap concat (sym (mapped_more f n)))))
 
 -- three texts that were added one behind the other
 pub onto : (old first second new a b c : List ℕ) → first ≡ old ++ a → second ≡ first ++ b →

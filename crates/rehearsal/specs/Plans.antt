@@ -1,5 +1,19 @@
 -- Who comes to a rehearsal, and how their links give and take.
-use Rattle.std.specs.Prelude.{ℕ, ◌+◌, ◌*◌, ◌%◌, false, List, [], ◌∷◌, length, map, codes, replicate, None}
+use Rattle.std.specs.Prelude.{
+  ℕ,
+  ◌+◌,
+  ◌*◌,
+  ◌%◌,
+  false,
+  List,
+  [],
+  ◌∷◌,
+  length,
+  map,
+  codes,
+  replicate,
+  None,
+}
 use Rattle.std.specs.List.{range_with_len}
 use Rattle.outside.specs.declared.plans.Comer.{Comer}
 use Rattle.outside.specs.declared.plans.LinkPlan.{LinkPlan}
@@ -15,7 +29,8 @@ most_given connection = 1 + connection % 64
 abbrev pub most_taken : ℕ
 most_taken = 50
 
--- No answer is more than 80 bytes longer than its request, and a send takes a byte at least, so there are not
+-- No answer is more than 80 bytes longer than its request, and a send takes a byte at least, so
+-- there are not
 -- more sends than this.
 abbrev pub send_count : ℕ → ℕ
 send_count connection = length (input_of connection) + 80 * request_count connection

@@ -1,5 +1,19 @@
--- What each connection of a rehearsal sends: one request behind the other (RFC 9112, section 9.3.2).
-use Rattle.std.specs.Prelude.{ℕ, ◌+◌, ◌*◌, ◌%◌, ◌==◌, List, [], ◌++◌, map, codes, decimal, if◌then◌else◌}
+-- What each connection of a rehearsal sends: one request behind the other (RFC 9112, section
+-- 9.3.2).
+use Rattle.std.specs.Prelude.{
+  ℕ,
+  ◌+◌,
+  ◌*◌,
+  ◌%◌,
+  ◌==◌,
+  List,
+  [],
+  ◌++◌,
+  map,
+  codes,
+  decimal,
+  if◌then◌else◌,
+}
 use Rattle.std.specs.List.{concat, range_with_len}
 
 -- how many requests a connection sends, by its number from 0
@@ -27,7 +41,8 @@ abbrev pub target : ℕ → ℕ → List ℕ
 target connection number = codes "/c" ++ (decimal connection ++ (codes "/r" ++ decimal number))
 
 unfoldable pub request_line : ℕ → ℕ → List ℕ
-request_line connection number = codes "POST " ++ (target connection number ++ codes " HTTP/1.1\r\n")
+request_line connection number = codes "POST " ++ (target connection number ++ codes
+    " HTTP/1.1\r\n")
 
 abbrev pub length_line : ℕ → ℕ → List ℕ
 length_line connection number =
@@ -46,4 +61,5 @@ request_of connection number = head_of connection number ++ body_of connection n
 
 -- all that a connection sends
 unfoldable pub input_of : ℕ → List ℕ
-input_of connection = concat (map (request_of connection) (range_with_len 0 (request_count connection)))
+input_of connection = concat (map (request_of connection)
+    (range_with_len 0 (request_count connection)))

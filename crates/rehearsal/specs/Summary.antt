@@ -7,6 +7,7 @@ line_of label number = label ++ (decimal number ++ codes "\n")
 
 unfoldable pub summary_text : Sums → List ℕ
 summary_text sums =
-    line_of (codes "connections ") sums.connections ++ (line_of (codes "requests ") sums.requests ++ (
+    line_of (codes "connections ") sums.connections ++ (line_of (codes "requests ") sums.requests ++
+    (
     line_of (codes "bytes in ") sums.bytes_in ++ (line_of (codes "bytes out ") sums.bytes_out ++ (
     line_of (codes "sum ") sums.sent_sum ++ line_of (codes "done ") sums.done))))

@@ -1,4 +1,5 @@
-//! A rehearsal: connections in memory that all come at once, and what is told of them once they were
+//! A rehearsal: connections in memory that all come at once, and what is told of them once they
+//! were
 //! served.
 #![tactic(auto)]
 

@@ -91,5 +91,8 @@ fn two_connections_send_three_requests(rt: HostRuntime) {
     let two = play(alloc, &mut net, 2, End::Done).expect(&rt, "the second");
     assert_eq!(rt; one.len() + two.len(), 305);
     let sums = sums_of(net.closed());
-    assert_eq!(rt; (sums.connections, sums.requests, sums.bytes_in, sums.done), (2, 3, 305, 1));
+    assert_eq!(rt;
+        (sums.connections, sums.requests, sums.bytes_in, sums.done),
+        (2, 3, 305, 1)
+    );
 }

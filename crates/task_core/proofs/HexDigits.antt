@@ -1,5 +1,28 @@
 -- A number in hexadecimal digits is that of its sixteenth, and one more digit.
-use Rattle.std.proofs.Common.{◌≡◌, ◌<◌, ◌≤◌, ◌/◌, ◌%◌, ◌^◌, ℕ, zero, suc, true, List, [], ◌∷◌, ◌++◌, cond, refl, ap, sym, ◌∙◌, append_assoc, ⊎_elim, arith}
+use Rattle.std.proofs.Common.{
+  ◌≡◌,
+  ◌<◌,
+  ◌≤◌,
+  ◌/◌,
+  ◌%◌,
+  ◌^◌,
+  ℕ,
+  zero,
+  suc,
+  true,
+  List,
+  [],
+  ◌∷◌,
+  ◌++◌,
+  cond,
+  refl,
+  ap,
+  sym,
+  ◌∙◌,
+  append_assoc,
+  ⊎_elim,
+  arith,
+}
 use Rattle.std.proofs.lemmas.Bool.{eq-eqb, ne_eqb, cases_lt}
 use Rattle.std.specs.Fmt.{digits, digits_onto, digit_glyph}
 
@@ -11,11 +34,14 @@ last_glyph n = digit_glyph true (n % 16)
 
 spell_last : (k n : ℕ) (acc : List ℕ) → n < 16 → spell (suc k) n acc ≡ last_glyph n ∷ acc
 spell_last k n acc h =
-    ap (λ t. cond t (last_glyph n ∷ acc) (spell k (n / 16) (last_glyph n ∷ acc))) (eq-eqb (n / 16) 0 (omega arith))
+    ap (λ t. cond t (last_glyph n ∷ acc) (spell k (n / 16) (last_glyph n ∷ acc)))
+    (eq-eqb (n / 16) 0 (omega arith))
 
-spell_next : (k n : ℕ) (acc : List ℕ) → 16 ≤ n → spell (suc k) n acc ≡ spell k (n / 16) (last_glyph n ∷ acc)
+spell_next : (k n : ℕ) (acc : List ℕ) → 16 ≤ n → spell (suc k) n acc ≡ spell k (n / 16)
+    (last_glyph n ∷ acc)
 spell_next k n acc h =
-    ap (λ t. cond t (last_glyph n ∷ acc) (spell k (n / 16) (last_glyph n ∷ acc))) (ne_eqb (n / 16) 0 (λ e. omega arith))
+    ap (λ t. cond t (last_glyph n ∷ acc) (spell k (n / 16) (last_glyph n ∷ acc)))
+    (ne_eqb (n / 16) 0 (λ e. omega arith))
 
 spell-append : (k n : ℕ) (acc : List ℕ) → spell k n acc ≡ spell k n [] ++ acc
 spell-append zero n acc = refl
@@ -27,16 +53,21 @@ spell-append (suc k) n acc = ⊎_elim
     (cases_lt n 16)
 
 -- how many digits are allowed does not matter once they are enough
-spell_enough : (j k n : ℕ) (acc : List ℕ) → n < 16 ^ suc j → n < 16 ^ suc k → spell (suc j) n acc ≡ spell (suc k) n acc
-spell_enough zero k n acc p q = spell_last zero n acc (omega arith) ∙ sym (spell_last k n acc (omega arith))
-spell_enough (suc j) zero n acc p q = spell_last (suc j) n acc (omega arith) ∙ sym (spell_last zero n acc (omega arith))
+spell_enough : (j k n : ℕ) (acc : List ℕ) → n < 16 ^ suc j → n < 16 ^ suc k →
+    spell (suc j) n acc ≡ spell (suc k) n acc
+spell_enough zero k n acc p q = spell_last zero n acc (omega arith) ∙
+    sym (spell_last k n acc (omega arith))
+spell_enough (suc j) zero n acc p q = spell_last (suc j) n acc (omega arith) ∙
+    sym (spell_last zero n acc (omega arith))
 spell_enough (suc j) (suc k) n acc p q = ⊎_elim
     (λ l. spell_last (suc j) n acc l ∙ sym (spell_last (suc k) n acc l))
-    (λ l. spell_next (suc j) n acc l ∙ spell_enough j k (n / 16) (last_glyph n ∷ acc) (omega arith) (omega arith)
+    (λ l. spell_next (suc j) n acc l ∙ spell_enough j k (n / 16) (last_glyph n ∷ acc) (omega arith)
+    (omega arith)
     ∙ sym (spell_next (suc k) n acc l))
     (cases_lt n 16)
 
-pub hex_step : (n : ℕ) → 16 ≤ n → n < 2 ^ 64 → digits 16 true n ≡ digits 16 true (n / 16) ++ last_glyph n ∷ []
+pub hex_step : (n : ℕ) → 16 ≤ n → n < 2 ^ 64 → digits 16 true n ≡ digits 16 true (n / 16) ++
+    last_glyph n ∷ []
 unfolding digits
 hex_step n h small =
     spell_next 63 n [] h

@@ -1,5 +1,28 @@
 -- The first piece of a body, and those behind it.
-use Rattle.std.proofs.Common.{◌≡◌, ◌+◌, ◌-◌, ℕ, zero, suc, Bool, true, false, List, [], ◌∷◌, ◌++◌, length, take, cond, refl, ap, sym, ◌∙◌, append_assoc, arith}
+use Rattle.std.proofs.Common.{
+  ◌≡◌,
+  ◌+◌,
+  ◌-◌,
+  ℕ,
+  zero,
+  suc,
+  Bool,
+  true,
+  false,
+  List,
+  [],
+  ◌∷◌,
+  ◌++◌,
+  length,
+  take,
+  cond,
+  refl,
+  ap,
+  sym,
+  ◌∙◌,
+  append_assoc,
+  arith,
+}
 use Rattle.std.proofs.lemmas.Bool.Decides.{nat_tests}
 use Rattle.std.proofs.lemmas.List.{length-append}
 use Rattle.std.proofs.Math.Seq.{take-nil}
@@ -9,7 +32,14 @@ use Rattle.task_core.specs.Answer.{body_bytes, chunk, last_chunk, layout_closes}
 use Rattle.task_core.specs.Scripts.{has_bytes}
 use Rattle.task_core.specs.Sending.{ending, left_behind, passed}
 use Rattle.task_core.specs.declared.layout.Layout.{Layout}
-use Rattle.task_core.specs.declared.layout.Layout.TheVariants.{NoContent, NotModified, HeadOnly, Known, Chunked, UntilClose}
+use Rattle.task_core.specs.declared.layout.Layout.TheVariants.{
+  NoContent,
+  NotModified,
+  HeadOnly,
+  Known,
+  Chunked,
+  UntilClose,
+}
 
 none_less : (n : ℕ) → n ≡ n - 0
 none_less n = omega arith
@@ -21,10 +51,12 @@ same_left : (n k : ℕ) → n - k ≡ suc n - suc k
 same_left n k = omega arith
 
 take_more : (n : ℕ) (xs ys : List ℕ) → take n (xs ++ ys) ≡ take n xs ++ take (n - length xs) ys
-take_more n [] ys = ap (λ k. take k ys) (none_less n) ∙ ap (λ l. l ++ take (n - 0) ys) (sym (take-nil n))
+take_more n [] ys = ap (λ k. take k ys) (none_less n) ∙ ap (λ l. l ++ take (n - 0) ys)
+    (sym (take-nil n))
 take_more zero (x ∷ xs) ys = ap (λ k. take k ys) (gone (length xs))
 take_more (suc n) (x ∷ xs) ys =
-    ap (λ l. x ∷ l) (take_more n xs ys) ∙ ap (λ k. x ∷ (take n xs ++ take k ys)) (same_left n (length xs))
+    ap (λ l. x ∷ l) (take_more n xs ys) ∙ ap (λ k. x ∷ (take n xs ++ take k ys))
+    (same_left n (length xs))
 
 less_left : (n k m : ℕ) → nat_lt (k + m) n ≡ nat_lt m (n - k)
 less_left n k m = grind (arith, nat_tests)
@@ -48,7 +80,8 @@ piece_closes NoContent bytes pieces = refl
 piece_closes (NotModified declared) bytes pieces = refl
 piece_closes (HeadOnly known) bytes pieces = refl
 piece_closes (Known n) bytes pieces =
-    ap (λ k. nat_lt k n) (length-append bytes (concat pieces)) ∙ less_left n (length bytes) (length (concat pieces))
+    ap (λ k. nat_lt k n) (length-append bytes (concat pieces)) ∙
+    less_left n (length bytes) (length (concat pieces))
 piece_closes Chunked bytes pieces = refl
 piece_closes UntilClose bytes pieces = refl
 

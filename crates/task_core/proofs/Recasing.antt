@@ -1,5 +1,21 @@
 -- A name is recased byte by byte.
-use Rattle.std.proofs.Common.{◌≡◌, ℕ, Bool, true, false, List, [], ◌∷◌, map, cond, refl, ap, sym, ◌∙◌, arith}
+use Rattle.std.proofs.Common.{
+  ◌≡◌,
+  ℕ,
+  Bool,
+  true,
+  false,
+  List,
+  [],
+  ◌∷◌,
+  map,
+  cond,
+  refl,
+  ap,
+  sym,
+  ◌∙◌,
+  arith,
+}
 use Rattle.std.proofs.lemmas.Bool.Decides.{nat_tests}
 use Rattle.std.specs.Prelude.{◌==◌, if◌then◌else◌}
 use Rattle.std.specs.Char.{to_ascii_lowercase, to_ascii_uppercase}
@@ -74,14 +90,16 @@ behind : (hyphen : Bool) (b : ℕ) (bs : List ℕ) → (b == 45) ≡ hyphen → 
 behind true b bs h parts = record {
   part = [];
   others = parts.part ∷ parts.others;
-  split = ap (λ c. cond c ([] ∷ slice_split (λ b. b == 45) bs) (onto_first b (slice_split (λ b. b == 45) bs))) h
+  split = ap (λ c. cond c ([] ∷ slice_split (λ b. b == 45) bs)
+      (onto_first b (slice_split (λ b. b == 45) bs))) h
       ∙ ap (λ ps. [] ∷ ps) parts.split;
   joins = behind_hyphen b bs parts.part parts.others h parts.joins;
 }
 behind false b bs h parts = record {
   part = b ∷ parts.part;
   others = parts.others;
-  split = ap (λ c. cond c ([] ∷ slice_split (λ b. b == 45) bs) (onto_first b (slice_split (λ b. b == 45) bs))) h
+  split = ap (λ c. cond c ([] ∷ slice_split (λ b. b == 45) bs)
+      (onto_first b (slice_split (λ b. b == 45) bs))) h
       ∙ ap (onto_first b) parts.split;
   joins = behind_other b bs parts.part parts.others h parts.joins;
 }

@@ -19,7 +19,8 @@ names_rank = ranks_by nat_list_cmp_total (λ (line : Line). line.name.now)
 insert_by_name : (b : Bool) (line other : Line) (lines : List Line) →
     fields_of (insert_by is_below line lines) ≡ with_field (field_of line) (fields_of lines) →
     fields_of (cond b (other ∷ insert_by is_below line lines) (line ∷ other ∷ lines))
-    ≡ cond b (field_of other ∷ with_field (field_of line) (fields_of lines)) (field_of line ∷ field_of other ∷ fields_of lines)
+    ≡ cond b (field_of other ∷ with_field (field_of line) (fields_of lines))
+    (field_of line ∷ field_of other ∷ fields_of lines)
 insert_by_name true line other lines h = ap (λ fs. field_of other ∷ fs) h
 insert_by_name false line other lines h = refl
 
@@ -29,7 +30,8 @@ inserted line [] = refl
 inserted line (other ∷ lines) =
     insert_by_name (is_below other line) line other lines (inserted line lines)
 
-pub sorted_fields : (lines : List Line) → fields_of (sort_by is_below lines) ≡ sorted_by_name (fields_of lines)
+pub sorted_fields : (lines : List Line) → fields_of (sort_by is_below lines) ≡ sorted_by_name
+    (fields_of lines)
 unfolding sorted_by_name
 sorted_fields [] = refl
 sorted_fields (line ∷ lines) =

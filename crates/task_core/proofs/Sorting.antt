@@ -1,5 +1,25 @@
 -- A stable sort has one answer, which inserting the elements one by one gives.
-use Rattle.std.proofs.Common.{◌≡◌, ◌≤◌, ◌<◌, ℕ, suc, Bool, true, false, List, [], ◌∷◌, length, get_or, cond, refl, ap, sym, ◌∙◌, arith}
+use Rattle.std.proofs.Common.{
+  ◌≡◌,
+  ◌≤◌,
+  ◌<◌,
+  ℕ,
+  suc,
+  Bool,
+  true,
+  false,
+  List,
+  [],
+  ◌∷◌,
+  length,
+  get_or,
+  cond,
+  refl,
+  ap,
+  sym,
+  ◌∙◌,
+  arith,
+}
 use Rattle.std.specs.Prelude.{filter, not, ◌&&◌}
 use Rattle.std.specs.Cmp.{IsStrictWeakOrder}
 use Rattle.std.specs.List.Sorted.{IsSortedBy, IsStableBy, ties}
@@ -46,12 +66,15 @@ module _ {X : Type 0} (lt : X → X → Bool) (o : IsStrictWeakOrder lt) where
   none_chain x y [] none h = tt
   none_chain x y (z ∷ ys) none h = (o.chain z y x none.0 h, none_chain x y ys none.1 h)
 
-  none_by : (z x y : X) (ys : List X) (b : Bool) → lt x z ≡ false → lt y z ≡ false → NoneBelow lt z ys →
-      NoneBelow lt z (insert_by lt x ys) → NoneBelow lt z (cond b (y ∷ insert_by lt x ys) (x ∷ y ∷ ys))
+  none_by : (z x y : X) (ys : List X) (b : Bool) → lt x z ≡ false → lt y z ≡ false →
+      NoneBelow lt z ys →
+      NoneBelow lt z (insert_by lt x ys) → NoneBelow lt z
+      (cond b (y ∷ insert_by lt x ys) (x ∷ y ∷ ys))
   none_by z x y ys true hx hy none more = (hy, more)
   none_by z x y ys false hx hy none more = (hx, (hy, none))
 
-  none_insert : (z x : X) (ys : List X) → lt x z ≡ false → NoneBelow lt z ys → NoneBelow lt z (insert_by lt x ys)
+  none_insert : (z x : X) (ys : List X) → lt x z ≡ false → NoneBelow lt z ys →
+      NoneBelow lt z (insert_by lt x ys)
   none_insert z x [] h none = (h, tt)
   none_insert z x (y ∷ ys) h none =
       none_by z x y ys (lt y x) h none.0 none.1 (none_insert z x ys h none.1)
@@ -80,10 +103,13 @@ module _ {X : Type 0} (lt : X → X → Bool) (o : IsStrictWeakOrder lt) where
 
   keeps_by : (z x y : X) (ys : List X) (b : Bool) → lt y x ≡ b →
       filter (ties lt z) (insert_by lt x ys) ≡ filter (ties lt z) (x ∷ ys) →
-      filter (ties lt z) (cond b (y ∷ insert_by lt x ys) (x ∷ y ∷ ys)) ≡ filter (ties lt z) (x ∷ y ∷ ys)
+      filter (ties lt z) (cond b (y ∷ insert_by lt x ys) (x ∷ y ∷ ys)) ≡ filter (ties lt z)
+      (x ∷ y ∷ ys)
   keeps_by z x y ys true h more =
-      swap_by x y (filter (ties lt z) ys) (filter (ties lt z) (insert_by lt x ys)) (ties lt z y) (ties lt z x)
-      (λ ty tx. sym (o.chain y z x (below_no (lt z y) (lt y z) ty).1 (below_no (lt z x) (lt x z) tx).0) ∙ h)
+      swap_by x y (filter (ties lt z) ys) (filter (ties lt z) (insert_by lt x ys)) (ties lt z y)
+      (ties lt z x)
+      (λ ty tx. sym (o.chain y z x (below_no (lt z y) (lt y z) ty).1
+      (below_no (lt z x) (lt x z) tx).0) ∙ h)
       more
   keeps_by z x y ys false h more = refl
 
@@ -96,7 +122,8 @@ module _ {X : Type 0} (lt : X → X → Bool) (o : IsStrictWeakOrder lt) where
       filter (ties lt z) (x ∷ xs) ≡ filter (ties lt z) (x ∷ ys)
   keeps_cons z x xs ys h = ap (λ l. cond (ties lt z x) (x ∷ l) l) h
 
-  pub sort_keeps : (z : X) (xs : List X) → filter (ties lt z) (sort_by lt xs) ≡ filter (ties lt z) xs
+  pub sort_keeps : (z : X) (xs : List X) → filter (ties lt z) (sort_by lt xs) ≡ filter (ties lt z)
+      xs
   sort_keeps z [] = refl
   sort_keeps z (x ∷ xs) =
       keeps_insert z x (sort_by lt xs) ∙ keeps_cons z x (sort_by lt xs) xs (sort_keeps z xs)
@@ -108,7 +135,8 @@ module _ {X : Type 0} (lt : X → X → Bool) (o : IsStrictWeakOrder lt) where
   among_by y z e es rest w true t h more f = o.chain y e z (below_no (lt y e) (lt e y) t).0 h
   among_by y z e es rest w false t h more f = more f
 
-  among : (y z w : X) (es rest : List X) → NoneBelow lt z es → filter (ties lt y) es ≡ w ∷ rest → lt y z ≡ false
+  among : (y z w : X) (es rest : List X) → NoneBelow lt z es → filter (ties lt y) es ≡ w ∷ rest →
+      lt y z ≡ false
   among y z w [] rest none f = absurd (cc)
   among y z w (e ∷ es) rest none f =
       among_by y z e es rest w (ties lt y e) refl none.0 (among y z w es rest none.1) f
@@ -116,7 +144,8 @@ module _ {X : Type 0} (lt : X → X → Bool) (o : IsStrictWeakOrder lt) where
   -- the first of a list ties with itself
   first_kept : (x : X) (xs : List X) → filter (ties lt x) (x ∷ xs) ≡ x ∷ filter (ties lt x) xs
   first_kept x xs =
-      ap (λ b. cond b (x ∷ filter (ties lt x) xs) (filter (ties lt x) xs)) (tied x x (not_itself x) (not_itself x))
+      ap (λ b. cond b (x ∷ filter (ties lt x) xs) (filter (ties lt x) xs))
+      (tied x x (not_itself x) (not_itself x))
 
   first_tied : (y z : X) (zs : List X) → ties lt y z ≡ true →
       filter (ties lt y) (z ∷ zs) ≡ z ∷ filter (ties lt y) zs
@@ -129,7 +158,8 @@ module _ {X : Type 0} (lt : X → X → Bool) (o : IsStrictWeakOrder lt) where
   same_first : (y z : X) (ys zs : List X) → ties lt y z ≡ true →
       filter (ties lt y) (y ∷ ys) ≡ filter (ties lt y) (z ∷ zs) → y ≡ z
   same_first y z ys zs t h =
-      let e : y ∷ filter (ties lt y) ys ≡ z ∷ filter (ties lt y) zs = sym (first_kept y ys) ∙ h ∙ first_tied y z zs t in
+      let e : y ∷ filter (ties lt y) ys ≡ z ∷ filter (ties lt y) zs = sym (first_kept y ys) ∙ h ∙
+      first_tied y z zs t in
       cc
 
   pub one_order : (ys zs : List X) → Ascends lt ys → Ascends lt zs →
@@ -140,12 +170,15 @@ module _ {X : Type 0} (lt : X → X → Bool) (o : IsStrictWeakOrder lt) where
   one_order (y ∷ ys) [] up vp f =
       let no : [] ≡ y ∷ filter (ties lt y) ys = sym (f y) ∙ first_kept y ys in absurd (cc)
   one_order (y ∷ ys) (z ∷ zs) up vp f =
-      let yz = among y z y (z ∷ zs) (filter (ties lt y) ys) (not_itself z, vp.0) (sym (f y) ∙ first_kept y ys) in
-      let zy = among z y z (y ∷ ys) (filter (ties lt z) zs) (not_itself y, up.0) (f z ∙ first_kept z zs) in
+      let yz = among y z y (z ∷ zs) (filter (ties lt y) ys) (not_itself z, vp.0)
+      (sym (f y) ∙ first_kept y ys) in
+      let zy = among z y z (y ∷ ys) (filter (ties lt z) zs) (not_itself y, up.0)
+      (f z ∙ first_kept z zs) in
       let e = same_first y z ys zs (tied y z yz zy) (f y) in
       let rest = one_order ys zs up.1 vp.1
       (λ x. rest_by y (filter (ties lt x) ys) (filter (ties lt x) zs) (ties lt x y)
-      (f x ∙ ap (λ w. cond (ties lt x w) (w ∷ filter (ties lt x) zs) (filter (ties lt x) zs)) (sym e))) in
+      (f x ∙ ap (λ w. cond (ties lt x w) (w ∷ filter (ties lt x) zs) (filter (ties lt x) zs))
+      (sym e))) in
       cc
 
   abbrev Far : List X → Type 0
@@ -154,16 +187,20 @@ module _ {X : Type 0} (lt : X → X → Bool) (o : IsStrictWeakOrder lt) where
   far_tail : (x : X) (xs : List X) → Far (x ∷ xs) → Far xs
   far_tail x xs far i j d l h = far (suc i) (suc j) d (omega arith) (omega arith)
 
-  none_far : (x : X) (ys : List X) → ((j : ℕ) → j < length ys → lt (get_or ys j x) x ≡ false) → NoneBelow lt x ys
+  none_far : (x : X) (ys : List X) → ((j : ℕ) → j < length ys → lt (get_or ys j x) x ≡ false) →
+      NoneBelow lt x ys
   none_far x [] at = tt
   none_far x (y ∷ ys) at = (at 0 (omega arith), none_far x ys (λ j h. at (suc j) (omega arith)))
 
   ascends_far : (xs : List X) → Far xs → Ascends lt xs
   ascends_far [] far = tt
-  ascends_far (x ∷ xs) far =
-      (none_far x xs (λ j h. far 0 (suc j) x (omega arith) (omega arith)), ascends_far xs (far_tail x xs far))
+  ascends_far (x ∷ xs) far = (
+    none_far x xs (λ j h. far 0 (suc j) x (omega arith) (omega arith)),
+    ascends_far xs (far_tail x xs far),
+  )
 
   pub sorted_is : (xs ys : List X) → IsSortedBy lt ys → IsStableBy lt xs ys → ys ≡ sort_by lt xs
   sorted_is xs ys up stable =
-      one_order ys (sort_by lt xs) (ascends_far ys (λ i j d l h. sorted_far lt o ys up i j d l h)) (sort_ascends xs)
+      one_order ys (sort_by lt xs) (ascends_far ys (λ i j d l h. sorted_far lt o ys up i j d l h))
+      (sort_ascends xs)
       (λ x. stable x ∙ sym (sort_keeps x xs))

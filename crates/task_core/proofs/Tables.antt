@@ -1,5 +1,23 @@
 -- Whether a row of a table fits, and whether a name stands in a list.
-use Rattle.std.proofs.Common.{◌≡◌, ◌+◌, ℕ, suc, Bool, true, false, List, [], ◌∷◌, length, map, cond, refl, ap, ◌∙◌, arith}
+use Rattle.std.proofs.Common.{
+  ◌≡◌,
+  ◌+◌,
+  ℕ,
+  suc,
+  Bool,
+  true,
+  false,
+  List,
+  [],
+  ◌∷◌,
+  length,
+  map,
+  cond,
+  refl,
+  ap,
+  ◌∙◌,
+  arith,
+}
 use Rattle.std.proofs.lemmas.Bool.Decides.{nat_tests}
 use Rattle.std.specs.Prelude.{None, Some, is_some, not, nat_lt, ◌||◌, position}
 use Rattle.std.specs.List.{list_any, position_or_len}
@@ -22,7 +40,8 @@ within_by : (b : Bool) (m n : ℕ) (rest : Bool) → nat_lt m n ≡ rest →
 within_by true m n rest h = none_less n
 within_by false m n rest h = one_less m n ∙ h
 
-within : {X : Type 0} (p : X → Bool) (xs : List X) → nat_lt (position_or_len p xs) (length xs) ≡ list_any p xs
+within : {X : Type 0} (p : X → Bool) (xs : List X) → nat_lt (position_or_len p xs)
+    (length xs) ≡ list_any p xs
 within p [] = refl
 within p (x ∷ xs) = within_by (p x) (position_or_len p xs) (length xs) (list_any p xs) (within p xs)
 
@@ -32,7 +51,8 @@ any_map p f [] = refl
 any_map p f (x ∷ xs) = ap (λ b. p (f x) || b) (any_map p f xs)
 
 pub row_found : {X : Type 0} (p : X → Bool) (xs : List X) → is_some (position p xs) ≡ list_any p xs
-row_found p xs = some_is (nat_lt (position_or_len p xs) (length xs)) (position_or_len p xs) ∙ within p xs
+row_found p xs = some_is (nat_lt (position_or_len p xs) (length xs)) (position_or_len p xs) ∙
+    within p xs
 
 pub hop_found : (name : List ℕ) (rows : List (List ℕ × ℕ)) → rows ≡ hop_rows →
     is_some (position (has_name_folded name) rows) ≡ is_hop_by_hop name

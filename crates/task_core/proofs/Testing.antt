@@ -1,5 +1,20 @@
 -- Tests that are true or false.
-use Rattle.std.proofs.Common.{◌≡◌, ℕ, suc, Bool, true, false, List, [], ◌∷◌, length, refl, sym, ◌∙◌, arith}
+use Rattle.std.proofs.Common.{
+  ◌≡◌,
+  ℕ,
+  suc,
+  Bool,
+  true,
+  false,
+  List,
+  [],
+  ◌∷◌,
+  length,
+  refl,
+  sym,
+  ◌∙◌,
+  arith,
+}
 use Rattle.std.proofs.lemmas.Bool.Decides.{nat_tests}
 use Rattle.std.specs.Prelude.{nat_lt, ◌&&◌, ◌||◌, ◌==◌}
 use Rattle.task_core.specs.Scripts.{has_bytes}
@@ -34,4 +49,5 @@ pub some_bytes : (bytes : List ℕ) → (length bytes == 0) ≡ false → has_by
 some_bytes bytes h = grind (arith, nat_tests)
 
 pub empty_is : (bytes : List ℕ) → (length bytes == 0) ≡ true → bytes ≡ []
-empty_is bytes h = let none : has_bytes bytes ≡ false = grind (arith, nat_tests) in no_bytes bytes none
+empty_is bytes h = let none : has_bytes bytes ≡ false = grind (arith, nat_tests) in no_bytes bytes
+    none

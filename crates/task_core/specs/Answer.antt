@@ -1,6 +1,28 @@
 -- The answer to a request, from the whole script of its application (PEP 3333; RFC 9110, sections
 -- 6.4, 8.6 and 15; RFC 9112, sections 6, 7.1 and 9).
-use Rattle.std.specs.Prelude.{ℕ, Bool, true, false, not, ◌||◌, nat_lt, List, [], ◌∷◌, ◌++◌, length, take, map, filter, codes, Option, Some, None, is_some, if◌then◌else◌}
+use Rattle.std.specs.Prelude.{
+  ℕ,
+  Bool,
+  true,
+  false,
+  not,
+  ◌||◌,
+  nat_lt,
+  List,
+  [],
+  ◌∷◌,
+  ◌++◌,
+  length,
+  take,
+  map,
+  filter,
+  codes,
+  Option,
+  Some,
+  None,
+  is_some,
+  if◌then◌else◌,
+}
 use Rattle.std.specs.Fmt.{digits}
 use Rattle.std.specs.List.{concat, flat_map, list_any}
 use Rattle.std.specs.Option.{option_to_list}
@@ -9,13 +31,27 @@ use Rattle.head_grammar.specs.declared.types.Field.{Field}
 use Rattle.head_grammar.specs.declared.types.Head.{Head}
 use Rattle.head_grammar.specs.declared.types.Version.{Version}
 use Rattle.head_grammar.specs.declared.types.Version.TheVariants.{Old, New}
-use Rattle.task_core.specs.Errors.{close_field, date_fields, error_text, is_head, length_field, server_field}
+use Rattle.task_core.specs.Errors.{
+  close_field,
+  date_fields,
+  error_text,
+  is_head,
+  length_field,
+  server_field,
+}
 use Rattle.task_core.specs.ResponseHead.{crlf, head_text, sorted_by_name, written}
 use Rattle.task_core.specs.Scripts.{has_failed, head_writer, pieces, sound_steps, start_in_force}
 use Rattle.task_core.specs.Starts.{declared_length, is_named}
 use Rattle.task_core.specs.declared.errors.Cause.TheVariants.{Application}
 use Rattle.task_core.specs.declared.layout.Layout.{Layout}
-use Rattle.task_core.specs.declared.layout.Layout.TheVariants.{NoContent, NotModified, HeadOnly, Known, Chunked, UntilClose}
+use Rattle.task_core.specs.declared.layout.Layout.TheVariants.{
+  NoContent,
+  NotModified,
+  HeadOnly,
+  Known,
+  Chunked,
+  UntilClose,
+}
 use Rattle.task_core.specs.declared.request.Request.{Request}
 use Rattle.wsgi.specs.declared.step.Step.{Step}
 use Rattle.wsgi.specs.declared.step.Step.TheVariants.{Start, Piece, Whole, Fail}
@@ -35,7 +71,8 @@ pub record Answer : Type 0 where
   pub text : List ℕ
   pub closes : Bool
 
--- the length that the step tells with which the head is written: that of the one byte string; at the
+-- the length that the step tells with which the head is written: that of the one byte string; at
+-- the
 -- script's end that of no body at all, which HEAD doesn't show
 abbrev pub length_told : Bool → Option Step → Option ℕ
 length_told head_only (Some (Whole bytes)) = Some (length bytes)
@@ -125,7 +162,8 @@ keep_alive_fields New = []
 
 abbrev pub connection_fields : Request → Layout → List Field
 connection_fields request layout =
-    if request.closes || is_unknown layout then close_field ∷ [] else keep_alive_fields request.version
+    if request.closes || is_unknown layout then close_field ∷ [] else keep_alive_fields
+    request.version
 
 abbrev pub has_named : List ℕ → List Field → Bool
 has_named name fields = list_any (is_named name) fields
@@ -162,7 +200,8 @@ failure_text request =
     error_text Application request.version request.is_head request.ident request.moment
 
 -- the answer with the head of this Start, or where there is no head to write
-abbrev pub answer_from : Request → Option (List ℕ × List Field) → Option Step → List (List ℕ) → Bool → Answer
+abbrev pub answer_from : Request → Option (List ℕ × List Field) → Option Step → List (List ℕ) →
+    Bool → Answer
 answer_from request None writer parts failed = record { text = failure_text request; closes = true }
 answer_from request (Some start) writer parts failed =
     let layout = layout_of request start writer in

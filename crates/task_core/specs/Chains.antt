@@ -1,5 +1,19 @@
 -- What the calls of `step` write, one after the other, over a script.
-use Rattle.std.specs.Prelude.{◌≡◌, ℕ, Bool, not, IsTrue, is_some, List, [], ◌∷◌, ◌++◌, Option, Some, None}
+use Rattle.std.specs.Prelude.{
+  ◌≡◌,
+  ℕ,
+  Bool,
+  not,
+  IsTrue,
+  is_some,
+  List,
+  [],
+  ◌∷◌,
+  ◌++◌,
+  Option,
+  Some,
+  None,
+}
 use Rattle.std.specs.List.{flat_map, last_or}
 use Rattle.std.specs.Option.{option_and_then}
 use Rattle.head_grammar.specs.declared.types.Head.{Head}
@@ -34,7 +48,8 @@ TakesScript old [] [] = ⊥
 TakesScript old [] (wrote ∷ parts) = (new : Task) × Takes old None wrote new × (parts ≡ [])
 TakesScript old (step ∷ rest) [] = ⊥
 TakesScript old (step ∷ rest) (wrote ∷ parts) =
-    (new : Task) × Takes old (Some step) wrote new × Unless wrote.ended parts (TakesScript new rest parts)
+    (new : Task) × Takes old (Some step) wrote new × Unless wrote.ended parts
+    (TakesScript new rest parts)
 
 -- the bytes of all parts
 abbrev pub joined : List Wrote → List ℕ
@@ -47,10 +62,13 @@ ended_by parts = option_and_then (λ wrote. wrote.ended) (last_or None parts)
 -- What a task writes is this answer to whatever script it is given.
 pub record Answers (task : Task) (answer_to : List Step → Answer) : Type 0 where
   -- the parts so far are the front of the answer to each script that begins with these steps
-  pub front : (steps : List Step) (parts : List Wrote) (left : Task) → TakesAll task steps parts left →
-      (rest : List Step) → (more : List ℕ) × ((answer_to (steps ++ rest)).text ≡ joined parts ++ more)
+  pub front : (steps : List Step) (parts : List Wrote) (left : Task) →
+      TakesAll task steps parts left →
+      (rest : List Step) → (more : List ℕ) × ((answer_to (steps ++ rest)).text ≡ joined parts ++
+      more)
   -- behind them another step may be given, unless the last of them ended the answer
-  pub goes_on : (steps : List Step) (parts : List Wrote) (left : Task) → TakesAll task steps parts left →
+  pub goes_on : (steps : List Step) (parts : List Wrote) (left : Task) →
+      TakesAll task steps parts left →
       is_under_way left ≡ not (is_some (ended_by parts))
   -- the parts of a whole script are the answer, which has ended
   pub whole : (script : List Step) (parts : List Wrote) → TakesScript task script parts →

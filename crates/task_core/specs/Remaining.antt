@@ -1,5 +1,18 @@
 -- What a task still gives for the steps that are left.
-use Rattle.std.specs.Prelude.{Bool, true, false, ◌||◌, List, [], ◌∷◌, ◌++◌, Option, Some, None, if◌then◌else◌}
+use Rattle.std.specs.Prelude.{
+  Bool,
+  true,
+  false,
+  ◌||◌,
+  List,
+  [],
+  ◌∷◌,
+  ◌++◌,
+  Option,
+  Some,
+  None,
+  if◌then◌else◌,
+}
 use Rattle.std.specs.List.{list_any}
 use Rattle.task_core.specs.Answer.{Answer, answer, body_bytes, layout_closes}
 use Rattle.task_core.specs.Scripts.{pieces}
@@ -39,5 +52,6 @@ rest_of_body request steps broken layout = record {
 
 abbrev pub rest_by : Request → State → List Step → Answer
 rest_by request (Opening given) rest = answer request (start_steps given ++ rest)
-rest_by request (Sending layout) rest = rest_of_body request (before_break rest) (breaks rest) layout
+rest_by request (Sending layout) rest = rest_of_body request (before_break rest) (breaks rest)
+    layout
 rest_by request Ended rest = record { text = []; closes = true }

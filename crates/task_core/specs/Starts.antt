@@ -1,5 +1,23 @@
 -- What a call of start_response may give (PEP 3333, 'The start_response() Callable').
-use Rattle.std.specs.Prelude.{ℕ, Bool, true, false, not, ◌&&◌, ◌==◌, ◌^◌, nat_lt, List, [], ◌∷◌, filter, find, codes, Option, option_map}
+use Rattle.std.specs.Prelude.{
+  ℕ,
+  Bool,
+  true,
+  false,
+  not,
+  ◌&&◌,
+  ◌==◌,
+  ◌^◌,
+  nat_lt,
+  List,
+  [],
+  ◌∷◌,
+  filter,
+  find,
+  codes,
+  Option,
+  option_map,
+}
 use Rattle.std.specs.List.{list_all, list_any}
 use Rattle.std.specs.Str.{str_eq_ignore_ascii_case}
 use Rattle.std.specs.Str.Parse.{digits_value}
@@ -22,7 +40,8 @@ is_named name field = str_eq_ignore_ascii_case name field.name
 -- 9110, section 7.6.1)
 abbrev pub hop_by_hop : List (List ℕ)
 hop_by_hop =
-    codes "connection" ∷ codes "keep-alive" ∷ codes "proxy-authenticate" ∷ codes "proxy-authorization"
+    codes "connection" ∷ codes "keep-alive" ∷ codes "proxy-authenticate" ∷ codes
+    "proxy-authorization"
     ∷ codes "te" ∷ codes "trailers" ∷ codes "transfer-encoding" ∷ codes "upgrade" ∷ []
 
 abbrev pub is_hop_by_hop : List ℕ → Bool
@@ -30,7 +49,8 @@ is_hop_by_hop name = list_any (λ hop. str_eq_ignore_ascii_case hop name) hop_by
 
 -- a token that is not hop-by-hop, and a value of field bytes (RFC 9110, sections 5.1 and 5.5)
 abbrev pub is_allowed : Field → Bool
-is_allowed field = is_name field.name && not (is_hop_by_hop field.name) && list_all is_field field.value
+is_allowed field = is_name field.name && not (is_hop_by_hop field.name) && list_all is_field
+    field.value
 
 -- the fields that declare the length of the body
 abbrev pub lengths : List Field → List Field
@@ -48,9 +68,11 @@ are_lengths (_ ∷ _ ∷ _) = false
 
 -- whether a status and fields may be given
 unfoldable pub is_valid : List ℕ → List Field → Bool
-is_valid status fields = is_status status && list_all is_allowed fields && are_lengths (lengths fields)
+is_valid status fields = is_status status && list_all is_allowed fields && are_lengths
+    (lengths fields)
 
 -- the length that is declared
 unfoldable pub declared_length : List Field → Option ℕ
 declared_length fields =
-    option_map (λ field. digits_value 10 field.value) (find (is_named (codes "content-length")) fields)
+    option_map (λ field. digits_value 10 field.value) (find (is_named (codes "content-length"))
+    fields)

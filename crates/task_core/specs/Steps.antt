@@ -1,5 +1,20 @@
 -- What one step of a task gives.
-use Rattle.std.specs.Prelude.{◌≡◌, Bool, true, false, not, List, [], ◌∷◌, ◌++◌, ℕ, Option, Some, None, is_some}
+use Rattle.std.specs.Prelude.{
+  ◌≡◌,
+  Bool,
+  true,
+  false,
+  not,
+  List,
+  [],
+  ◌∷◌,
+  ◌++◌,
+  ℕ,
+  Option,
+  Some,
+  None,
+  is_some,
+}
 use Rattle.task_core.specs.Answer.{Answer}
 use Rattle.task_core.specs.Remaining.{rest_by}
 use Rattle.task_core.specs.declared.request.Request.{Request}
@@ -23,11 +38,13 @@ text_of wrote = wrote.head ++ wrote.body
 abbrev pub onto : List ℕ → Answer → Answer
 onto text answer = record { text = text ++ answer.text; closes = answer.closes }
 
--- Behind a step, what is left of each answer follows the text; or the text ended the answer, whatever
+-- Behind a step, what is left of each answer follows the text; or the text ended the answer,
+-- whatever
 -- steps would have come.
 abbrev pub Follows : Option Bool → List ℕ → (List Step → Answer) → (List Step → Answer) → Type 0
 Follows None text old new = (rest : List Step) → old rest ≡ onto text (new rest)
-Follows (Some closes) text old new = (rest : List Step) → old rest ≡ record { text = text; closes = closes }
+Follows (Some closes) text old new = (rest : List Step) →
+    old rest ≡ record { text = text; closes = closes }
 
 -- behind the script's end the answer has ended
 abbrev pub Ends : Option Bool → List ℕ → Answer → Type 0
@@ -35,7 +52,8 @@ Ends None text left = ⊥
 Ends (Some closes) text left = left ≡ record { text = text; closes = closes }
 
 abbrev pub GoesBy : (List Step → Answer) → Option Step → Wrote → (List Step → Answer) → Type 0
-GoesBy old (Some step) wrote new = Follows wrote.ended (text_of wrote) (λ rest. old (step ∷ rest)) new
+GoesBy old (Some step) wrote new = Follows wrote.ended (text_of wrote) (λ rest. old (step ∷ rest))
+    new
 GoesBy old None wrote new = Ends wrote.ended (text_of wrote) (old [])
 
 abbrev pub has_ended : State → Bool
@@ -46,7 +64,8 @@ has_ended Ended = true
 -- what a step gives, and whether the response has ended then
 abbrev pub Goes : Request → State → Option Step → Wrote × State → Type 0
 Goes request old step r =
-    GoesBy (rest_by request old) step r.0 (rest_by request r.1) × (has_ended r.1 ≡ is_some r.0.ended)
+    GoesBy (rest_by request old) step r.0 (rest_by request r.1)
+    × (has_ended r.1 ≡ is_some r.0.ended)
 
 -- whether a task may be given a step
 unfoldable pub is_under_way : Task → Bool

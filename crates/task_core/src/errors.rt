@@ -86,7 +86,8 @@ fn kind_name(kind: Kind) -> &'static str
 // The words of a refusal, and the number behind them.
 #[tactic(auto, unfolding(byte_tables::specs::Refusals::text_of))]
 fn words_of(refusal: Refusal) -> (&'static str, Option<u64>)
-    ensures { refusals.text_of refusal ≡ result.0.now ++ flat_map decimal (option_to_list result.1) }
+    ensures { refusals.text_of refusal ≡ result.0.now ++ flat_map decimal
+        (option_to_list result.1) }
 {
     match refusal {
         Refusal::RequestLine => ("Malformed request line", None),
@@ -110,7 +111,8 @@ fn words_of(refusal: Refusal) -> (&'static str, Option<u64>)
 }
 
 fn push_number(text: &mut Vec<u8>, number: Option<u64>) -> Result<(), AllocError>
-    ensures { OnOk result (text.new.items ≡ text.old.items ++ flat_map decimal (option_to_list number)) }
+    ensures { OnOk result (text.new.items ≡ text.old.items ++ flat_map decimal
+        (option_to_list number)) }
 {
     match number {
         Some(number) => text.extend_from_slice(Buffer::new().format(number).as_bytes()),

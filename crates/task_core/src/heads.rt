@@ -59,7 +59,8 @@ fn recased(field: Field) -> Field
 
 fn kept(alloc: Global, fields: Items<Field>) -> Result<Vec<Field>, AllocError>
     ensures { IfOk result (λ kept. kept.items
-        ≡ map head.recased_field (filter (λ field. not (is_named (codes "content-length") field)) fields)) }
+        ≡ map head.recased_field (filter (λ field. not (is_named (codes "content-length") field))
+        fields)) }
 {
     fields
         .into_vec()
@@ -185,7 +186,8 @@ fn push_line<'a>(lines: &mut Vec<Line<'a>>, line: Option<Line<'a>>) -> Result<()
 }
 
 fn sort(lines: &mut Vec<Line<'_>>) -> Result<(), AllocError>
-    ensures { OnOk result (fields_of lines.new.items ≡ head.sorted_by_name (fields_of lines.old.items)) }
+    ensures { OnOk result (fields_of lines.new.items ≡ head.sorted_by_name
+        (fields_of lines.old.items)) }
 {
     lines.sort_by(|a, b| a.name.cmp(b.name))?;
     Ok(())
@@ -218,7 +220,8 @@ fn head_text(
     status: &[u8],
     lines: &[Line<'_>],
 ) -> Result<Vec<u8>, AllocError>
-    ensures { IfOk result (λ text. text.items ≡ head.head_text version status.now (fields_of lines.now)) }
+    ensures { IfOk result (λ text. text.items ≡ head.head_text version status.now
+        (fields_of lines.now)) }
 {
     let size = size_of(lines)
         .saturating_add(status.len())

@@ -49,7 +49,8 @@ impl Layout {
     /// Frames the bytes of a piece: what stands before them goes to the end of the head. The answer
     /// is the layout of what follows.
     pub fn pass(self, head: &mut Vec<u8>, bytes: &mut Vec<u8>) -> Result<Layout, AllocError>
-        ensures sent { OnOk result (head.new.items ++ bytes.new.items ≡ head.old.items ++ sending.passed self bytes.old.items) }
+        ensures sent { OnOk result (head.new.items ++ bytes.new.items ≡ head.old.items ++
+            sending.passed self bytes.old.items) }
         ensures left { IfOk result (λ layout. layout ≡ sending.left_behind self bytes.old.items) }
     {
         match self {
@@ -112,7 +113,8 @@ fn pass_known(left: u64, bytes: &mut Vec<u8>) -> Layout
 
 // A chunk, where there are bytes: the last chunk alone has none.
 fn pass_chunk(head: &mut Vec<u8>, bytes: &mut Vec<u8>) -> Result<(), AllocError>
-    ensures { OnOk result (head.new.items ++ bytes.new.items ≡ head.old.items ++ sending.passed Layout.Chunked bytes.old.items) }
+    ensures { OnOk result (head.new.items ++ bytes.new.items ≡ head.old.items ++ sending.passed
+        Layout.Chunked bytes.old.items) }
 {
     if bytes.is_empty() {
         return Ok(());

@@ -43,7 +43,8 @@ pub(crate) fn push_field(text: &mut Vec<u8>, name: &[u8], value: &[u8]) -> Resul
 
 /// Writes the field that tells the length of the body.
 pub(crate) fn push_length(text: &mut Vec<u8>, length: usize) -> Result<(), AllocError>
-    ensures { OnOk result (text.new.items ≡ text.old.items ++ head.field_line (spec.length_field length)) }
+    ensures { OnOk result (text.new.items ≡ text.old.items ++ head.field_line
+        (spec.length_field length)) }
 {
     push_field(
         text,

@@ -20,7 +20,11 @@ use wsgi::Step;
 
 // The application failed before its head.
 fn fail(alloc: Global, request: &Request) -> Result<(Wrote, State), AllocError>
-    ensures { IfOk result (λ r. (r.0 ≡ record { head = spec.failure_text request.now; body = []; ended = Some true })
+    ensures { IfOk result (λ r. (r.0 ≡ record {
+      head = spec.failure_text request.now;
+      body = [];
+      ended = Some true;
+    })
         × (r.1 ≡ state.Ended)) }
 {
     let answer = ErrorAnswer {
@@ -35,7 +39,8 @@ fn fail(alloc: Global, request: &Request) -> Result<(Wrote, State), AllocError>
 
 // Nothing is written yet.
 fn wait(alloc: Global, given: Option<Given>) -> (Wrote, State)
-    ensures { (result.0 ≡ record { head = []; body = []; ended = None }) × (result.1 ≡ state.Opening given) }
+    ensures { (result.0 ≡ record { head = []; body = []; ended = None })
+        × (result.1 ≡ state.Opening given) }
 {
     let wrote = Wrote::of(Vec::new(alloc), Vec::new(alloc));
     (wrote, State::Opening(given))
@@ -56,7 +61,8 @@ fn start(
     fields: Items<Field>,
     replace: bool,
 ) -> Result<(Wrote, State), AllocError>
-    ensures { IfOk result (Goes request.now (state.Opening given) (Some (step.Start status fields replace))) }
+    ensures { IfOk result (Goes request.now (state.Opening given)
+        (Some (step.Start status fields replace))) }
 {
     if is_second(&given, replace) {
         return fail(alloc, request);
@@ -83,7 +89,8 @@ fn begin(
     whole: bool,
 ) -> Result<(Wrote, State), AllocError>
     requires { IsTrue (has_bytes bytes.items) }
-    ensures { IfOk result (Goes request.now (state.Opening (Some given)) (Some (byte_string whole bytes.items))) }
+    ensures { IfOk result (Goes request.now (state.Opening (Some given))
+        (Some (byte_string whole bytes.items))) }
 {
     let told = length_told(whole, bytes.len() as u64);
     let layout = Layout::new(request, given.status.as_slice(), given.declared, told);

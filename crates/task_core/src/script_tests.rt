@@ -150,7 +150,8 @@ pub(crate) fn answer_to(
     written(alloc, task, steps_of(alloc, script)?)
 }
 
-// A request, `dated` where its moment has a date; its script, where a Start is `S`, or `R` if it may
+// A request, `dated` where its moment has a date; its script, where a Start is `S`, or `R` if it
+// may
 // replace another; whether the connection stays open or closes; the text that answers it.
 #[test]
 fn scripts_are_answered(rt: HostRuntime) -> Result<(), Fail> {

@@ -26,7 +26,8 @@ fn pass(alloc: Global, layout: Layout, bytes: Bytes) -> Result<(Wrote, State), A
 
 // The text ends here, and the connection closes.
 fn cut(alloc: Global) -> (Wrote, State)
-    ensures { (result.0 ≡ record { head = []; body = []; ended = Some true }) × (result.1 ≡ state.Ended) }
+    ensures { (result.0 ≡ record { head = []; body = []; ended = Some true })
+        × (result.1 ≡ state.Ended) }
 {
     (Wrote::last(alloc, Vec::new(alloc), true), State::Ended)
 }

@@ -89,7 +89,8 @@ pub(crate) fn is_named(field: &Field, name: &[u8]) -> bool
 }
 
 fn length_of(field: &Field) -> Option<u64>
-    ensures { result ≡ (if spec.is_length field.now then Some (digits_value 10 field.now.value) else None) }
+    ensures { result ≡ (if spec.is_length field.now then Some (digits_value 10 field.now.value) else
+        None) }
 {
     let value = field.value.as_slice();
     if !is_number(value) {
@@ -100,7 +101,8 @@ fn length_of(field: &Field) -> Option<u64>
 
 // The length that is declared, if one is; nothing where the fields declare it wrongly.
 fn declared(fields: &[Field]) -> Option<Option<u64>>
-    ensures { result ≡ (if are_lengths (lengths fields.now) then Some (declared_length fields.now) else None) }
+    ensures { result ≡ (if are_lengths (lengths fields.now) then Some (declared_length fields.now)
+        else None) }
 {
     let mut declared = None;
     for field in fields {

@@ -43,7 +43,8 @@ impl Task {
     pub fn step(&mut self, alloc: Global, step: Option<Step>) -> Result<Wrote, NoMemory>
         requires { IsTrue (is_under_way self.old) }
         ensures under_way { IfOk result (λ wrote. is_under_way self.new ≡ not (is_some wrote.ended)) }
-        ensures answer { IfOk result (λ wrote. GoesBy (remaining self.old) step wrote (remaining self.new)) }
+        ensures answer { IfOk result (λ wrote. GoesBy (remaining self.old) step wrote
+            (remaining self.new)) }
         ensures ended { OnErr result (is_under_way self.new ≡ false) }
     {
         let state = mem::replace(&mut self.state, State::Ended);

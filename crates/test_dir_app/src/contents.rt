@@ -21,7 +21,8 @@ fn file(alloc: Global, size: usize) -> Result<String, AllocError> {
     Ok(text)
 }
 
-// The method, the target, the number of the call that fails, and the answer. The call 0 looks at the
+// The method, the target, the number of the call that fails, and the answer. The call 0 looks at
+// the
 // size, and the others read: a file that became shorter fails there.
 static ROWS: &str = "\
     GET > /big > - > 200 OK|Content-Type: application/octet-stream|Content-Length: 70000|piece 32768|piece 32768|piece 4464|faults 0\n\

@@ -1,10 +1,39 @@
 -- The sentences of the rule, of both ends.
-use Rattle.std.proofs.Common.{refl, ◌≡◌, ℕ, suc-ne-zero, Bool, true, false, List, [], ◌∷◌, get_or, sym, ap, ◌∙◌, subst, inl, inr, Option}
+use Rattle.std.proofs.Common.{
+  refl,
+  ◌≡◌,
+  ℕ,
+  suc-ne-zero,
+  Bool,
+  true,
+  false,
+  List,
+  [],
+  ◌∷◌,
+  get_or,
+  sym,
+  ap,
+  ◌∙◌,
+  subst,
+  inl,
+  inr,
+  Option,
+}
 use Rattle.atomic_table.specs.Table.{State}
 use Rattle.turn_gate.specs.declared.board.Entries.{Entries}
 use Rattle.turn_gate.specs.declared.board.Shelf.{Shelf}
 use Rattle.turn_gate.specs.declared.board.View.{View}
-use Rattle.turn_gate.specs.Gate.{Phase, free, left_has, right_has, Two, vacant, filling, whole, Kept}
+use Rattle.turn_gate.specs.Gate.{
+  Phase,
+  free,
+  left_has,
+  right_has,
+  Two,
+  vacant,
+  filling,
+  whole,
+  Kept,
+}
 use Rattle.turn_gate.specs.Rule.{KeepsRule, Keeps, RefusesWhereHeld}
 
 module _ {S L R F : Type 0} (agree : S → List L → List R → Type 0) (fixed : S → F) where
@@ -35,9 +64,11 @@ module _ {S L R F : Type 0} (agree : S → List L → List R → Type 0) (fixed 
   no_both n one zero_is = suc-ne-zero 0 (sym one ∙ zero_is)
 
   zero_one : (ws : List ℕ) → ws ≡ 1 ∷ [] → ws ≡ 0 ∷ [] → ⊥
-  zero_one ws held vacated = no_both (get_or ws 0 0) (ap (λ (zs : List ℕ). get_or zs 0 0) held) (ap (λ (zs : List ℕ). get_or zs 0 0) vacated)
+  zero_one ws held vacated = no_both (get_or ws 0 0) (ap (λ (zs : List ℕ). get_or zs 0 0) held)
+      (ap (λ (zs : List ℕ). get_or zs 0 0) vacated)
 
-  sentences : (s : St) (l r : V) → Two agree fixed s l r → Phase agree fixed s l r → KeepsRule agree fixed s l r
+  sentences : (s : St) (l r : V) → Two agree fixed s l r → Phase agree fixed s l r →
+      KeepsRule agree fixed s l r
   sentences s l r t (free lh rh word c home x gone came) = record {
     left_side = t.left;
     right_side = t.right;
@@ -94,7 +125,8 @@ module _ {S L R F : Type 0} (agree : S → List L → List R → Type 0) (fixed 
   one_view : (s : St) (v l r : V) → s.views ≡ v ∷ [] → s.views ≡ l ∷ r ∷ [] → ⊥
   one_view s v l r one both = let x : false ≡ true = ap has_two (sym one ∙ both) in cc
 
-  between : (s : St) (l r : V) → Kept agree fixed s → s.views ≡ l ∷ r ∷ [] → KeepsRule agree fixed s l r
+  between : (s : St) (l r : V) → Kept agree fixed s → s.views ≡ l ∷ r ∷ [] →
+      KeepsRule agree fixed s l r
   between s l r (inl (vacant f views word home)) both = absurd (one_view s _ l r views both)
   between s l r (inl (filling f views word home)) both = absurd (one_view s _ l r views both)
   between s l r (inl (whole f views word c home x)) both = absurd (one_view s _ l r views both)
@@ -102,13 +134,20 @@ module _ {S L R F : Type 0} (agree : S → List L → List R → Type 0) (fixed 
       let e : p.l ∷ p.r ∷ [] ≡ l ∷ r ∷ [] = sym p.two.views ∙ both in
       let x : p.l ≡ l = ap (first l) e in
       let y : p.r ≡ r = ap (second r) e in
-      subst (λ (z : V × V). KeepsRule agree fixed s z.0 z.1) (λ j. (x j, y j)) (sentences s p.l p.r p.two p.two.phase)
+      subst (λ (z : V × V). KeepsRule agree fixed s z.0 z.1) (λ j. (x j, y j))
+      (sentences s p.l p.r p.two p.two.phase)
 
   pub keeps_rule : Keeps agree fixed (Kept agree fixed)
   keeps_rule s (inl (vacant f views word home)) = inl (record { view = _; views = views })
   keeps_rule s (inl (filling f views word home)) = inl (record { view = _; views = views })
   keeps_rule s (inl (whole f views word c home x)) = inl (record { view = _; views = views })
-  keeps_rule s (inr p) = inr (record { left = p.l; right = p.r; views = p.two.views; keeps = sentences s p.l p.r p.two p.two.phase })
+  keeps_rule s (inr p) = inr (record {
+    left = p.l;
+    right = p.r;
+    views = p.two.views;
+    keeps =
+        sentences s p.l p.r p.two p.two.phase;
+  })
 
   must : (b : Bool) → (b ≡ false → ⊥) → b ≡ true
   must true impossible = refl
@@ -116,6 +155,8 @@ module _ {S L R F : Type 0} (agree : S → List L → List R → Type 0) (fixed 
 
   pub refuses_where_held : RefusesWhereHeld (Kept agree fixed)
   refuses_where_held s t l r w before after is = (
-    (λ now other. must r.has (λ off. other ((between t w r after now).left_refused off ∙ sym ((between s l r before is).left_refused off)))),
-    (λ now other. must l.has (λ off. other ((between t l w after now).right_refused off ∙ sym ((between s l r before is).right_refused off)))),
+    (λ now other. must r.has (λ off. other ((between t w r after now).left_refused off ∙
+        sym ((between s l r before is).left_refused off)))),
+    (λ now other. must l.has (λ off. other ((between t l w after now).right_refused off ∙
+        sym ((between s l r before is).right_refused off)))),
   )

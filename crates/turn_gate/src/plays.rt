@@ -69,7 +69,11 @@ impl<S, L, R, F> Tells<
     ),
     Entries<L, R>,
 > for ByLeft {
-    ghost told = { λ x. record { left = x.0.value.me.0.left ++ x.1.value ∷ []; right = x.0.value.me.0.right } };
+    ghost told = { λ x. record {
+      left = x.0.value.me.0.left ++ x.1.value ∷ [];
+      right =
+          x.0.value.me.0.right;
+    } };
 }
 
 pub(crate) struct ByRight;
@@ -81,5 +85,9 @@ impl<S, L, R, F> Tells<
     ),
     Entries<L, R>,
 > for ByRight {
-    ghost told = { λ x. record { left = x.0.value.me.0.left; right = x.0.value.me.0.right ++ x.1.value ∷ [] } };
+    ghost told = { λ x. record {
+      left = x.0.value.me.0.left;
+      right =
+          x.0.value.me.0.right ++ x.1.value ∷ [];
+    } };
 }

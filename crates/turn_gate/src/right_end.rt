@@ -61,7 +61,8 @@ impl<P: Pact> Right<P> {
         })
     }
 
-    /// Ends the turn, of which the entry says what it did. It wakes nobody: a left end never sleeps.
+    /// Ends the turn, of which the entry says what it did. It wakes nobody: a left end never
+    /// sleeps.
     pub fn end(&mut self, turn: Turn<P>, entry: P::RightEntry)
         requires own { (turn.by_right ≡ self.old) × (self.old.has ≡ true) }
         requires fixed { P.fixed turn.state ≡ self.old.fixed }

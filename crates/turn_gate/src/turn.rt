@@ -20,7 +20,12 @@ impl<P: Pact> Model for Turn<P> {
 
     ghost coded = { in_turn_coded P.State.code P.LeftEntry.code P.RightEntry.code P.Fixed.code };
 
-    ghost view = { λ t. record { state = t.state.value; by_left = left_end t.of.value; by_right = right_end t.of.value } };
+    ghost view = { λ t. record {
+      state = t.state.value;
+      by_left = left_end t.of.value;
+      by_right =
+          right_end t.of.value;
+    } };
 }
 
 impl<P: Pact> Turn<P> {

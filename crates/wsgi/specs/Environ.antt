@@ -1,8 +1,37 @@
--- The environ of a request (PEP 3333, 'environ Variables'; RFC 3875, section 4.1). It lacks the keys that
--- speak of the server's own objects (wsgi.version, .input, .errors, .multithread, .multiprocess, .run_once)
--- and GATEWAY_INTERFACE. Three variables are looser than there: SERVER_NAME of an address of version 6 has no
--- brackets, SCRIPT_NAME is the prefix of any path, and REMOTE_ADDR is any token that a trusted proxy tells.
-use Rattle.std.specs.Prelude.{ℕ, Bool, true, not, ◌==◌, ◌&&◌, List, [], ◌∷◌, ◌++◌, length, take, drop, map, codes, decimal, find, Option, Some, option_map, unwrap_or, Result, Ok, if◌then◌else◌}
+-- The environ of a request (PEP 3333, 'environ Variables'; RFC 3875, section 4.1). It lacks the
+-- keys that
+-- speak of the server's own objects (wsgi.version, .input, .errors, .multithread, .multiprocess,
+-- .run_once)
+-- and GATEWAY_INTERFACE. Three variables are looser than there: SERVER_NAME of an address of
+-- version 6 has no
+-- brackets, SCRIPT_NAME is the prefix of any path, and REMOTE_ADDR is any token that a trusted
+-- proxy tells.
+use Rattle.std.specs.Prelude.{
+  ℕ,
+  Bool,
+  true,
+  not,
+  ◌==◌,
+  ◌&&◌,
+  List,
+  [],
+  ◌∷◌,
+  ◌++◌,
+  length,
+  take,
+  drop,
+  map,
+  codes,
+  decimal,
+  find,
+  Option,
+  Some,
+  option_map,
+  unwrap_or,
+  Result,
+  Ok,
+  if◌then◌else◌,
+}
 use Rattle.std.specs.Char.{to_ascii_uppercase}
 use Rattle.std.specs.List.{filter, list_any}
 use Rattle.std.specs.Option.{option_to_list}

@@ -9,5 +9,6 @@ abbrev pub invariant-loop-value : goal.invariant-loop-value
 invariant-loop-value l = record {
   can : (goal.iterator-loop-value).can_next l.value-iterator;
   finite : (goal.iterator-loop-value).is_finite l.value-iterator;
-  rest : each table_in (items_view l.fn.list.items) ≡ behind (map table_view l.all.items) (each table_in (items_view l.value-iterator.rest.items));
+  rest : each table_in (items_view l.fn.list.items) ≡ behind (map table_view l.all.items)
+      (each table_in (items_view l.value-iterator.rest.items));
 }

@@ -12,7 +12,8 @@ loop-table-preserved c =
     let front = c.loop-table.rows.items in
     let i = c.loop-table.table-index in
     let left = map table_view (drop (i + 1) tables) in
-    let here : map table_view (drop i tables) ≡ table_view c.table-item.result ∷ left = search (rules, drop_more) in
+    let here : map table_view (drop i tables) ≡ table_view c.table-item.result ∷ left =
+    search (rules, drop_more) in
     let one : row_of (table_view c.table-item.result) ≡ Some c.in-Some.row = search rules in
     let grown : c.push.new.self.items ≡ front ++ c.in-Some.row ∷ [] = search rules in
     c.loop-table.invariant ∙ ap (λ ms. rows_behind front (rows_from (length front) ms)) here

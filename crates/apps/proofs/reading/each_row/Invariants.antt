@@ -7,4 +7,5 @@ use Rattle.apps.proofs.reading.each_row.Given as goal
 
 abbrev pub invariant-loop-table : goal.invariant-loop-table
 invariant-loop-table l =
-    rows_from 0 (map table_view l.tables.items) ≡ rows_behind l.rows.items (rows_from (length l.rows.items) (map table_view (drop l.table-index l.tables.items)))
+    rows_from 0 (map table_view l.tables.items) ≡ rows_behind l.rows.items
+    (rows_from (length l.rows.items) (map table_view (drop l.table-index l.tables.items)))

@@ -5,4 +5,5 @@ use Rattle.apps.specs.Rows.{has_keys}
 use Rattle.apps.proofs.row_table.has_keys.Given as goal
 
 abbrev pub invariant-loop-key : goal.invariant-loop-key
-invariant-loop-key l = has_keys (members_view l.table.entries) ≡ has_keys (members_view l.key-iterator)
+invariant-loop-key l = has_keys (members_view l.table.entries) ≡ has_keys
+    (members_view l.key-iterator)

@@ -7,4 +7,5 @@ use Rattle.apps.proofs.values.each_field.Given as goal
 
 abbrev pub invariant-loop-value : goal.invariant-loop-value
 invariant-loop-value l =
-    each field (items_view l.list.items) ≡ behind l.fields.items (each field (items_view (drop l.value-index l.list.items)))
+    each field (items_view l.list.items) ≡ behind l.fields.items
+    (each field (items_view (drop l.value-index l.list.items)))

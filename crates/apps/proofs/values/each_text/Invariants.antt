@@ -7,4 +7,5 @@ use Rattle.apps.proofs.values.each_text.Given as goal
 
 abbrev pub invariant-loop-value : goal.invariant-loop-value
 invariant-loop-value l =
-    each text (items_view l.list.items) ≡ behind l.texts.items (each text (items_view (drop l.value-index l.list.items)))
+    each text (items_view l.list.items) ≡ behind l.texts.items
+    (each text (items_view (drop l.value-index l.list.items)))

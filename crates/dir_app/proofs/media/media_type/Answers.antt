@@ -6,4 +6,5 @@ use Rattle.dir_app.proofs.media.media_type.Goals as goal
 pub returns-in-None : goal.returns-in-None
 unfolding media_type
 returns-in-None c =
-    none_found c.suffix.result.now _ c.suffixes-rows.ensures c.in-None.ensures.first ∙ ap type_of_suffix c.suffix.ensures
+    none_found c.suffix.result.now _ c.suffixes-rows.ensures c.in-None.ensures.first ∙
+    ap type_of_suffix c.suffix.ensures

@@ -4,4 +4,7 @@ use Rattle.gate_numbers.specs.Numbers.{added}
 use Rattle.gate_numbers.proofs.threads.add_all.Given as goal
 
 abbrev pub invariant-loop-number : goal.invariant-loop-number
-invariant-loop-number g l = record { has : l.left.has ≡ false; added : added l.left.own ≡ added l.initial.left.own ++ range_with_len 0 l.number }
+invariant-loop-number g l = record {
+  has : l.left.has ≡ false;
+  added : added l.left.own ≡ added l.initial.left.own ++ range_with_len 0 l.number;
+}

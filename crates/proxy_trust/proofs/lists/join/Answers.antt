@@ -5,5 +5,6 @@ use Rattle.proxy_trust.proofs.lists.join.Goals as goal
 
 pub returns : goal.returns
 returns c = c.from_vec-2.ensures ∙
-    joined_is c.args.parts.now c.in-Some.rest.now c.in-Some.first.now c.loop-part.text.items c.extend_from_slice.new.self.items c.loop-part.part-index
+    joined_is c.args.parts.now c.in-Some.rest.now c.in-Some.first.now c.loop-part.text.items
+    c.extend_from_slice.new.self.items c.loop-part.part-index
     (search rules) (search rules) c.loop-part.invariant c.loop-part-test.false

@@ -10,6 +10,7 @@ returns c =
     let split = c.split-part-items.ensures in
     let end = YieldsList-end
     (YieldsList-at c.into_iter-part-iterator.ensures.into_iter_gives
-    (YieldsList-from_slice_split _ (λ b. b == 44) c.args.value.now split.rest split.done split.closure (λ x r q k. search (rules, tests))))
+    (YieldsList-from_slice_split _ (λ b. b == 44) c.args.value.now split.rest split.done
+    split.closure (λ x r q k. search (rules, tests))))
     c.loop-part.yielded _ c.loop-part.yielded_by _ _ c.in-None.is c.next.ensures.steps in
     c.loop-part.invariant ∙ ap (map trimmed) end.0

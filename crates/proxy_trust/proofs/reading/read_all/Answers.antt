@@ -15,14 +15,16 @@ returns-in_err-read_clients c =
 pub returns-in_err-read_hosts : goal.returns-in_err-read_hosts
 unfolding read_all
 returns-in_err-read_hosts c =
-    let p = err_from_is_err_and c.from_residual-in_err-read_hosts.result c.from_residual-in_err-read_hosts.ensures.1 in
+    let p = err_from_is_err_and c.from_residual-in_err-read_hosts.result
+    c.from_residual-in_err-read_hosts.ensures.1 in
     (fault_behind _ _ _ _ _ _ _ c.used.ensures c.in_ok-read_clients.ensures
     (fault_first _ _ _ _ _ _ _ (p.1 ∙ ap Err p.2) c.used-2.ensures c.in_err-read_hosts.ensures))
 
 pub returns-in_err-read_proto : goal.returns-in_err-read_proto
 unfolding read_all
 returns-in_err-read_proto c =
-    let p = err_from_is_err_and c.from_residual-in_err-read_proto.result c.from_residual-in_err-read_proto.ensures.1 in
+    let p = err_from_is_err_and c.from_residual-in_err-read_proto.result
+    c.from_residual-in_err-read_proto.ensures.1 in
     (fault_behind _ _ _ _ _ _ _ c.used.ensures c.in_ok-read_clients.ensures
     (fault_behind _ _ _ _ _ _ _ c.used-2.ensures c.in_ok-read_hosts.ensures
     (fault_first _ _ _ _ _ _ _ (p.1 ∙ ap Err p.2) c.used-3.ensures c.in_err-read_proto.ensures)))
@@ -30,7 +32,8 @@ returns-in_err-read_proto c =
 pub returns-in_err-read_port : goal.returns-in_err-read_port
 unfolding read_all
 returns-in_err-read_port c =
-    let p = err_from_is_err_and c.from_residual-in_err-read_port.result c.from_residual-in_err-read_port.ensures.1 in
+    let p = err_from_is_err_and c.from_residual-in_err-read_port.result
+    c.from_residual-in_err-read_port.ensures.1 in
     (fault_behind _ _ _ _ _ _ _ c.used.ensures c.in_ok-read_clients.ensures
     (fault_behind _ _ _ _ _ _ _ c.used-2.ensures c.in_ok-read_hosts.ensures
     (fault_behind _ _ _ _ _ _ _ c.used-3.ensures c.in_ok-read_proto.ensures
@@ -39,7 +42,8 @@ returns-in_err-read_port c =
 pub returns-in_err-read_by : goal.returns-in_err-read_by
 unfolding read_all
 returns-in_err-read_by c =
-    let p = err_from_is_err_and c.from_residual-in_err-read_by.result c.from_residual-in_err-read_by.ensures.1 in
+    let p = err_from_is_err_and c.from_residual-in_err-read_by.result
+    c.from_residual-in_err-read_by.ensures.1 in
     (fault_behind _ _ _ _ _ _ _ c.used.ensures c.in_ok-read_clients.ensures
     (fault_behind _ _ _ _ _ _ _ c.used-2.ensures c.in_ok-read_hosts.ensures
     (fault_behind _ _ _ _ _ _ _ c.used-3.ensures c.in_ok-read_proto.ensures

@@ -5,6 +5,7 @@ use Rattle.task_core.proofs.names.recase.Given as goal
 
 abbrev pub invariant-loop-byte : goal.invariant-loop-byte
 invariant-loop-byte l = record {
-  done : take l.byte-index l.name ++ cased l.first (drop l.byte-index l.fn.name) ≡ cased true l.fn.name;
+  done : take l.byte-index l.name ++ cased l.first (drop l.byte-index l.fn.name) ≡ cased true
+      l.fn.name;
   rest : drop l.byte-index l.name ≡ drop l.byte-index l.fn.name;
 }

@@ -12,7 +12,8 @@ returns-then-is_empty c =
     let a = c.args in
     let none = empty_is a.bytes (sym c.is_empty.ensures ∙ c.if-is_empty.true) in
     waiting_goes a.request.now a.given a.given (byte_string a.whole a.bytes) c.wait.result
-    (λ rest. ap (λ bs. answer a.request.now (start_steps a.given ++ byte_string a.whole bs ∷ rest)) none
+    (λ rest. ap (λ bs. answer a.request.now (start_steps a.given ++ byte_string a.whole bs ∷ rest))
+    none
     ∙ empty_string a.request.now a.given a.whole rest)
     c.wait.ensures.0 c.wait.ensures.1
 
@@ -21,6 +22,7 @@ returns-in-None c =
     let a = c.args in
     let some = some_bytes a.bytes (sym c.is_empty.ensures ∙ c.if-is_empty.false) in
     failed_goes a.request.now a.given (byte_string a.whole a.bytes) c.fail.result
-    (λ rest. ap (λ g. answer a.request.now (start_steps g ++ byte_string a.whole a.bytes ∷ rest)) c.in-None.is
+    (λ rest. ap (λ g. answer a.request.now (start_steps g ++ byte_string a.whole a.bytes ∷ rest))
+    c.in-None.is
     ∙ string_alone a.request.now a.whole a.bytes rest some)
     c.fail.ensures

@@ -12,5 +12,7 @@ pub returns-in-Some-Fail : goal.returns-in-Some-Fail
 returns-in-Some-Fail c =
     let a = c.args in
     let is : a.step ≡ Some Fail = cc in
-    subst (λ (s : Option Step). IfOk c.fail.result (Goes a.request.now (Opening a.given) s)) (sym is)
-    (failed_goes a.request.now a.given Fail c.fail.result (fail_answer a.request.now a.given) c.fail.ensures)
+    subst (λ (s : Option Step). IfOk c.fail.result (Goes a.request.now (Opening a.given) s))
+    (sym is)
+    (failed_goes a.request.now a.given Fail c.fail.result (fail_answer a.request.now a.given)
+    c.fail.ensures)

@@ -10,7 +10,8 @@ pub returns-then-is_second : goal.returns-then-is_second
 returns-then-is_second c =
     let a = c.args in
     failed_goes a.request.now a.given (Start a.status a.fields a.replace) c.fail.result
-    (λ rest. second_start a.request.now a.given a.status a.fields a.replace rest (sym c.is_second.ensures ∙ c.if-is_second.true))
+    (λ rest. second_start a.request.now a.given a.status a.fields a.replace rest
+    (sym c.is_second.ensures ∙ c.if-is_second.true))
     c.fail.ensures
 
 pub returns-in-Some : goal.returns-in-Some
@@ -18,9 +19,12 @@ returns-in-Some c =
     let a = c.args in
     let next = c.in-Some.given in
     waiting_goes a.request.now a.given (Some next) (Start a.status a.fields a.replace) c.wait.result
-    (λ rest. ap (λ status. answer a.request.now (start_steps a.given ++ Start status a.fields a.replace ∷ rest)) (sym c.in-Some.ensures.0)
-    ∙ (ap (λ fields. answer a.request.now (start_steps a.given ++ Start next.status fields a.replace ∷ rest)) (sym c.in-Some.ensures.1)
-    ∙ good_start a.request.now a.given next a.replace rest (sym c.is_second.ensures ∙ c.if-is_second.false)))
+    (λ rest. ap (λ status. answer a.request.now (start_steps a.given ++ Start status a.fields
+    a.replace ∷ rest)) (sym c.in-Some.ensures.0)
+    ∙ (ap (λ fields. answer a.request.now (start_steps a.given ++ Start next.status fields a.replace
+    ∷ rest)) (sym c.in-Some.ensures.1)
+    ∙ good_start a.request.now a.given next a.replace rest
+    (sym c.is_second.ensures ∙ c.if-is_second.false)))
     c.wait.ensures.0 c.wait.ensures.1
 
 pub returns : goal.returns

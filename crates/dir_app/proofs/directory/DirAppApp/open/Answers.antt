@@ -12,13 +12,17 @@ returns-in-Text-clause-script g c = λ told.
     let files : List (List ℕ × List ℕ) = g.T.Tree.files c.args.self.now.tree.now in
     ap rest_of c.new.ensures
     ∙ (ap (asked_script files) (sym c.in-Text.is)
-    ∙ (c.in-Ok.ensures files ∙ ap (λ (root : List ℕ). dir_script files root c.args.environ c.args.body.bytes) c.as_str.ensures.value))
+    ∙ (c.in-Ok.ensures files ∙ ap (λ (root : List ℕ). dir_script files root c.args.environ
+    c.args.body.bytes) c.as_str.ensures.value))
 
 pub returns-clause-script : goal.returns-clause-script
 returns-clause-script g c = λ told.
     let files : List (List ℕ × List ℕ) = g.T.Tree.files c.args.self.now.tree.now in
-    let entry = c.in_ok-entry-in-File.ensures.told (first_tells g.T.Tree.tells g.T.Entry.TreeEntry.tells told) in
-    ap (λ (file : Option (List ℕ)). file_script c.in-File.bodyless c.in-File.media.now (sizable file))
+    let entry = c.in_ok-entry-in-File.ensures.told (first_tells g.T.Tree.tells
+    g.T.Entry.TreeEntry.tells told) in
+    ap (λ (file : Option (List ℕ)). file_script c.in-File.bodyless c.in-File.media.now
+    (sizable file))
     (entry.1 ∙ ap (content_of files) c.as_str-in-File.ensures.value)
     ∙ (ap (asked_script files) (sym c.in-File.is)
-    ∙ (c.in-Ok.ensures files ∙ ap (λ (root : List ℕ). dir_script files root c.args.environ c.args.body.bytes) c.as_str.ensures.value))
+    ∙ (c.in-Ok.ensures files ∙ ap (λ (root : List ℕ). dir_script files root c.args.environ
+    c.args.body.bytes) c.as_str.ensures.value))
