@@ -1,5 +1,4 @@
--- Internal
--- Pairs of texts that stand one behind the other in one text.
+-- Internal: pairs of texts that stand one behind the other in one text.
 use Rattle.std.specs.Prelude.{ℕ, ◌+◌, List, [], ◌∷◌, take, drop}
 
 -- the pairs, by how long the first and the second text of each are
