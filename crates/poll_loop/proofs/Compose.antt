@@ -1,5 +1,25 @@
 -- How what the calls of a turn do composes.
-use Rattle.std.proofs.Common.{◌≡◌, ◌≤◌, ◌<◌, ◌+◌, ◌++◌, inl, inr, ℕ, [], Bool, IsSome, refl, ap, sym, subst, ◌∙◌, arith, length, append_assoc}
+use Rattle.std.proofs.Common.{
+  ◌≡◌,
+  ◌≤◌,
+  ◌<◌,
+  ◌+◌,
+  ◌++◌,
+  inl,
+  inr,
+  ℕ,
+  [],
+  Bool,
+  IsSome,
+  refl,
+  ap,
+  sym,
+  subst,
+  ◌∙◌,
+  arith,
+  length,
+  append_assoc,
+}
 use Rattle.std.proofs.lemmas.List.{map-append, append-nil}
 use Rattle.outside.specs.Causes.{Rose}
 use Rattle.outside.specs.Link.{LinkState, stamped}
@@ -12,10 +32,12 @@ use Rattle.poll_loop.specs.Seat.{Eyes, Follows, Goes, viewed}
 between : (a b c : ℕ) → a ≤ b → b ≤ c → c ≡ a → b ≡ a
 between a b c h k e = omega (arith, h, k, e)
 
-outputs_trans : (a b c : Shown) → (x : Moves a b) → (y : Moves b c) → c.begun ≡ a.begun → c.answered ≡ a.answered → a.left ≤ c.left → c.output ≤ a.output
+outputs_trans : (a b c : Shown) → (x : Moves a b) → (y : Moves b c) → c.begun ≡ a.begun →
+    c.answered ≡ a.answered → a.left ≤ c.left → c.output ≤ a.output
 outputs_trans a b c x y begun ended left =
     let b1 : b.begun ≡ a.begun = between a.begun b.begun c.begun x.begun y.begun begun in
-    let e1 : b.answered ≡ a.answered = between a.answered b.answered c.answered x.answered y.answered ended in
+    let e1 : b.answered ≡ a.answered = between a.answered b.answered c.answered x.answered
+    y.answered ended in
     let b2 : c.begun ≡ b.begun = begun ∙ sym b1 in
     let e2 : c.answered ≡ b.answered = ended ∙ sym e1 in
     let l1 : b.left ≤ a.left = x.left b1 in
@@ -26,7 +48,8 @@ outputs_trans a b c x y begun ended left =
     let o2 : c.output ≤ b.output = y.output b2 e2 l4 in
     omega (arith, o1, o2)
 
-lefts_trans : (a b c : Shown) → (x : Moves a b) → (y : Moves b c) → c.begun ≡ a.begun → c.left ≤ a.left
+lefts_trans : (a b c : Shown) → (x : Moves a b) → (y : Moves b c) → c.begun ≡ a.begun →
+    c.left ≤ a.left
 lefts_trans a b c x y begun =
     let b1 : b.begun ≡ a.begun = between a.begun b.begun c.begun x.begun y.begun begun in
     let b2 : c.begun ≡ b.begun = begun ∙ sym b1 in
@@ -62,19 +85,25 @@ moves_trans a b c x y =
       units = omega (arith, u1, u2);
       left = lefts_trans a b c x y;
       output = outputs_trans a b c x y;
-      dead = λ h. let d : b.dead ≡ a.dead = x.dead h in y.dead (subst (λ o. IsSome o) (sym d) h) ∙ d;
+      dead = λ h. let d : b.dead ≡ a.dead = x.dead h in y.dead (subst (λ o. IsSome o) (sym d) h) ∙
+          d;
     }
 
 -- ---- what a link tells
 
-fed_trans : (a b c : View) → LinkGoes a b → LinkGoes b c → a.shown.put < c.shown.put → length a.link.arrivals < length c.link.arrivals
+fed_trans : (a b c : View) → LinkGoes a b → LinkGoes b c → a.shown.put < c.shown.put →
+    length a.link.arrivals < length c.link.arrivals
 fed_trans a b c x y h = grind (arith, x.fed, y.fed, x.came, y.came, h)
 
-bytes_trans : (a b c : View) → (m : Moves a.shown b.shown) → (n : Moves b.shown c.shown) → LinkGoes a b → LinkGoes b c → c.shown.begun ≡ a.shown.begun → c.shown.answered ≡ a.shown.answered → a.shown.left ≤ c.shown.left →
+bytes_trans : (a b c : View) → (m : Moves a.shown b.shown) → (n : Moves b.shown c.shown) →
+    LinkGoes a b → LinkGoes b c → c.shown.begun ≡ a.shown.begun →
+    c.shown.answered ≡ a.shown.answered → a.shown.left ≤ c.shown.left →
     c.shown.output + length c.link.sent ≤ a.shown.output + length a.link.sent
 bytes_trans a b c m n x y begun ended left =
-    let b1 : b.shown.begun ≡ a.shown.begun = between a.shown.begun b.shown.begun c.shown.begun m.begun n.begun begun in
-    let e1 : b.shown.answered ≡ a.shown.answered = between a.shown.answered b.shown.answered c.shown.answered m.answered n.answered ended in
+    let b1 : b.shown.begun ≡ a.shown.begun = between a.shown.begun b.shown.begun c.shown.begun
+    m.begun n.begun begun in
+    let e1 : b.shown.answered ≡ a.shown.answered = between a.shown.answered b.shown.answered
+    c.shown.answered m.answered n.answered ended in
     let b2 : c.shown.begun ≡ b.shown.begun = begun ∙ sym b1 in
     let e2 : c.shown.answered ≡ b.shown.answered = ended ∙ sym e1 in
     let l1 : b.shown.left ≤ a.shown.left = m.left b1 in
@@ -85,7 +114,8 @@ bytes_trans a b c m n x y begun ended left =
     let o2 = y.bytes b2 e2 l4 in
     omega (arith, o1, o2)
 
-pub goes_trans : (a b c : View) → Moves a.shown b.shown → Moves b.shown c.shown → LinkGoes a b → LinkGoes b c → LinkGoes a c
+pub goes_trans : (a b c : View) → Moves a.shown b.shown → Moves b.shown c.shown → LinkGoes a b →
+    LinkGoes b c → LinkGoes a c
 goes_trans a b c m n x y =
     let c1 = x.came in
     let c2 = y.came in
@@ -109,9 +139,11 @@ goes_trans a b c m n x y =
     }
 
 -- where the link is as before, no unit is put
-pub same_link : (old new : View) → Moves old.shown new.shown → new.link ≡ old.link → new.shown.put ≡ old.shown.put → LinkGoes old new
+pub same_link : (old new : View) → Moves old.shown new.shown → new.link ≡ old.link →
+    new.shown.put ≡ old.shown.put → LinkGoes old new
 same_link old new moves link put =
-    let arrivals : length new.link.arrivals ≡ length old.link.arrivals = ap (λ l. length l.arrivals) link in
+    let arrivals : length new.link.arrivals ≡ length old.link.arrivals =
+    ap (λ l. length l.arrivals) link in
     let sent : length new.link.sent ≡ length old.link.sent = ap (λ l. length l.sent) link in
     let asked : new.link.asked ≡ old.link.asked = ap (λ l. l.asked) link in
     let recv : new.link.recv_put_off ≡ old.link.recv_put_off = ap (λ l. l.recv_put_off) link in
@@ -151,7 +183,8 @@ stamps_none now old new link = record {
 
 -- ---- calls of one moment
 
-pub follows_trans : (tells : Bool) (now : ℕ) (a b c : View) → Follows tells now a b → Follows tells now b c → Follows tells now a c
+pub follows_trans : (tells : Bool) (now : ℕ) (a b c : View) → Follows tells now a b →
+    Follows tells now b c → Follows tells now a c
 follows_trans tells now a b c x y = record {
   key = y.key ∙ x.key;
   moves = moves_trans a.shown b.shown c.shown x.moves y.moves;
@@ -159,7 +192,8 @@ follows_trans tells now a b c x y = record {
   stamps = λ t. stamps_trans now a.link b.link c.link (x.stamps t) (y.stamps t);
 }
 
-pub go_on : {L P A : Type 0} (e : Eyes L P) (now : ℕ) (a b c : Seen L A) → Goes e now a b → Goes e now b c → Goes e now a c
+pub go_on : {L P A : Type 0} (e : Eyes L P) (now : ℕ) (a b c : Seen L A) → Goes e now a b →
+    Goes e now b c → Goes e now a c
 go_on e now a b c x y = record {
   same = record {
     peer = y.same.peer ∙ x.same.peer;
@@ -170,7 +204,9 @@ go_on e now a b c x y = record {
 }
 
 -- steps go on so, since they leave the link as it is
-pub goes_by_steps : {L P A : Type 0} (e : Eyes L P) (now : ℕ) (old new : Seen L A) → new.link ≡ old.link → new.peer ≡ old.peer → new.fixed ≡ old.fixed → Moves old.shown new.shown → new.shown.put ≡ old.shown.put → Goes e now old new
+pub goes_by_steps : {L P A : Type 0} (e : Eyes L P) (now : ℕ) (old new : Seen L A) →
+    new.link ≡ old.link → new.peer ≡ old.peer → new.fixed ≡ old.fixed → Moves old.shown new.shown →
+    new.shown.put ≡ old.shown.put → Goes e now old new
 goes_by_steps e now old new link peer fixed moves put = record {
   same = record {
     peer = peer;
@@ -209,11 +245,13 @@ pub heard_then : (a b c : View) → Heard a b → LinkGoes b c → c.faults ≡ 
 heard_then a b c h y faultless = (
   rose_later a.link.asked b.link.asked c.link.asked h.0 y.asked,
   elim h.1 [
-    | inl p ↦ inl (rose_later a.link.recv_put_off b.link.recv_put_off c.link.recv_put_off p y.recv_put_off)
+    | inl p ↦ inl (rose_later a.link.recv_put_off b.link.recv_put_off c.link.recv_put_off p
+        y.recv_put_off)
     | inr q ↦ inr (elim q [
       | inl f ↦ inl (same_rose a.faults b.faults c.faults f faultless)
       | inr r ↦ inr (elim r [
-        | inl l ↦ inl (longer_later (length a.link.arrivals) (length b.link.arrivals) (length c.link.arrivals) l y.came)
+        | inl l ↦ inl (longer_later (length a.link.arrivals) (length b.link.arrivals)
+            (length c.link.arrivals) l y.came)
         | inr e ↦ inr (y.ended e)
       ])
     ])
@@ -224,17 +262,20 @@ pub spoke_behind : (a b c : View) → LinkGoes a b → b.faults ≡ a.faults →
 spoke_behind a b c x faultless h = (
   rose_earlier a.link.asked b.link.asked c.link.asked x.asked h.0,
   elim h.1 [
-    | inl p ↦ inl (rose_earlier a.link.send_put_off b.link.send_put_off c.link.send_put_off x.send_put_off p)
+    | inl p ↦ inl (rose_earlier a.link.send_put_off b.link.send_put_off c.link.send_put_off
+        x.send_put_off p)
     | inr q ↦ inr (elim q [
       | inl f ↦ inl (subst (λ n. Rose n c.faults) faultless f)
-      | inr l ↦ inr (longer_earlier (length a.link.sent) (length b.link.sent) (length c.link.sent) x.sent l)
+      | inr l ↦ inr (longer_earlier (length a.link.sent) (length b.link.sent) (length c.link.sent)
+          x.sent l)
     ])
   ],
 )
 
 -- ---- steps among what makes none
 
-pub steps_within : (a b c d : Shown) → b.begun ≡ a.begun → b.answered ≡ a.answered → b.left ≡ a.left →
+pub steps_within : (a b c d : Shown) → b.begun ≡ a.begun → b.answered ≡ a.answered →
+    b.left ≡ a.left →
     d.begun ≡ c.begun → d.answered ≡ c.answered → d.left ≡ c.left → Steps b c → Steps a d
 steps_within a b c d begun answered left begun' answered' left' s = elim s [
   | inl h ↦ inl (omega (arith, begun, begun', h))

@@ -1,5 +1,35 @@
 -- What a poll leaves, and a turn with its poll.
-use Rattle.std.proofs.Common.{◌≡◌, ◌≤◌, ◌+◌, ◌-◌, ◌⊎◌, ◌||◌, inl, inr, ℕ, Bool, true, false, List, [], ◌∷◌, ◌++◌, Option, None, Some, refl, ap, sym, subst, ◌∙◌, arith, length, map, take, drop}
+use Rattle.std.proofs.Common.{
+  ◌≡◌,
+  ◌≤◌,
+  ◌+◌,
+  ◌-◌,
+  ◌⊎◌,
+  ◌||◌,
+  inl,
+  inr,
+  ℕ,
+  Bool,
+  true,
+  false,
+  List,
+  [],
+  ◌∷◌,
+  ◌++◌,
+  Option,
+  None,
+  Some,
+  refl,
+  ap,
+  sym,
+  subst,
+  ◌∙◌,
+  arith,
+  length,
+  map,
+  take,
+  drop,
+}
 use Rattle.std.specs.Prelude.{unwrap_or}
 use Rattle.std.specs.List.{list_any}
 use Rattle.std.proofs.lemmas.List.{drop-map, map-append, take-append-drop, take-map}
@@ -15,7 +45,16 @@ use Rattle.channel.specs.declared.types.Window.{Window}
 use Rattle.poll_loop.specs.Accounts.{Accounts, Books, LastKnows, TimeGoesOn, books}
 use Rattle.poll_loop.specs.Connections.{CameMore, Gathers, IsAsked, IsNow, works}
 use Rattle.poll_loop.specs.Lists.{EachIs}
-use Rattle.poll_loop.specs.NoIdle.{AsksNothing, Hosts, NoIdle, Nudges, Serving, is_accepting, is_some_due, views}
+use Rattle.poll_loop.specs.NoIdle.{
+  AsksNothing,
+  Hosts,
+  NoIdle,
+  Nudges,
+  Serving,
+  is_accepting,
+  is_some_due,
+  views,
+}
 use Rattle.poll_loop.specs.Seat.{Eyes, MarkHolds, SeatRests, viewed}
 use Rattle.poll_loop.specs.Server.{Carries, StepEnds, Steps}
 use Rattle.poll_loop.specs.Settings.{is_below}
@@ -36,9 +75,17 @@ raised_more : (n : ℕ) → n ≤ raised n
 raised_more n = omega arith
 
 -- a poll that told a turn
-module _ {L P : Type 0} (wants : List Want) (accepting : Bool) (turn : Turn) (old new : NetState L P) (told : TellsTurn wants accepting turn old new) where
+module _ {L P : Type 0} (wants : List Want) (accepting : Bool) (turn : Turn)
+    (old new : NetState L P) (told : TellsTurn wants accepting turn old new) where
   abbrev poll_is : Poll P
-  poll_is = record { wants = wants; accepting = accepting; turn = turn; given = old.given; live = old.live }
+  poll_is = record {
+    wants = wants;
+    accepting = accepting;
+    turn = turn;
+    given = old.given;
+    live =
+        old.live;
+  }
 
   last_is : new.last ≡ Some poll_is
   last_is = ap (λ n. n.last) told.state
@@ -68,9 +115,11 @@ module _ {L P : Type 0} (wants : List Want) (accepting : Bool) (turn : Turn) (ol
     };
   }
 
-module _ {L P : Type 0} (Holds : NetState L P → Retired L → Type 0) (plan : L → P) (limit : Option ℕ) (accepted : ℕ) where
+module _ {L P : Type 0} (Holds : NetState L P → Retired L → Type 0) (plan : L → P)
+    (limit : Option ℕ) (accepted : ℕ) where
   -- nothing was done
-  pub steps_none : (b : Books L P) (fault : ServeFault) → Steps (Some (why.Failed fault)) Holds plan limit accepted accepted b b
+  pub steps_none : (b : Books L P) (fault : ServeFault) →
+      Steps (Some (why.Failed fault)) Holds plan limit accepted accepted b b
   steps_none b fault = record {
     accounts = accounts_refl Holds plan b;
     knows = record { still = λ k. k; either = inl (refl, refl) };
@@ -79,17 +128,24 @@ module _ {L P : Type 0} (Holds : NetState L P → Retired L → Type 0) (plan : 
   }
 
   -- a poll failed
-  pub steps_failed : (old new : NetState L P) (x f : ℕ) (who : List (Peer × P)) (fault : ServeFault) → new ≡ record old { polls = raised old.polls } →
-      Steps (Some (why.Failed fault)) Holds plan limit accepted accepted (books old x f who) (books new x f who)
+  pub steps_failed : (old new : NetState L P) (x f : ℕ) (who : List (Peer × P))
+      (fault : ServeFault) → new ≡ record old { polls = raised old.polls } →
+      Steps (Some (why.Failed fault)) Holds plan limit accepted accepted (books old x f who)
+      (books new x f who)
   steps_failed old new x f who fault e =
       let first = ap (λ n. n.first) e in
       let last = ap (λ n. n.last) e in
       let live = ap (λ n. n.live) e in
       let given = ap (λ n. n.given) e in
       record {
-        accounts = accounts_none Holds plan _ _ (ap (λ n. n.closed) e) given refl live refl refl (ap (λ n. n.bound) e) (ap (λ n. n.quiet) e)
+        accounts = accounts_none Holds plan _ _ (ap (λ n. n.closed) e) given refl live refl refl
+            (ap (λ n. n.bound) e) (ap (λ n. n.quiet) e)
             (let p = ap (λ n. n.polls) e in let r = raised_more old.polls in omega (arith, p, r))
-            (record { first = λ m h. first ∙ h; later = let l = ap (λ p. last_moment p) last in omega (arith, l) });
+            (record {
+              first = λ m h. first ∙ h;
+              later = let l =
+                  ap (λ p. last_moment p) last in omega (arith, l);
+            });
         knows = record {
           still = λ k. record {
             poll = k.poll;
@@ -100,19 +156,32 @@ module _ {L P : Type 0} (Holds : NetState L P → Retired L → Type 0) (plan : 
           either = inl (ap (λ n. n.closed) e, refl);
         };
         ends = λ h. sym (ap (λ n. n.stopped) e) ∙ h;
-        came_more = subst (λ n. CameMore limit accepted accepted (length old.given) n) (sym (ap length given)) (more_none limit accepted (length old.given));
+        came_more = subst (λ n. CameMore limit accepted accepted (length old.given) n)
+            (sym (ap length given)) (more_none limit accepted (length old.given));
       }
 
-  module _ (wants : List Want) (accepting : Bool) (turn : Turn) (old new : NetState L P) (told : TellsTurn wants accepting turn old new) where
-    accounts_polled : (x f : ℕ) (who : List (Peer × P)) → Accounts Holds plan (books old x f who) (books new x f who)
-    accounts_polled x f who = accounts_none Holds plan _ _ (ap (λ n. n.closed) told.state) (ap (λ n. n.given) told.state) refl (ap (λ n. n.live) told.state) refl refl
-        (ap (λ n. n.bound) told.state) (ap (λ n. n.quiet) told.state) (let p = ap (λ n. n.polls) told.state in let r = raised_more old.polls in omega (arith, p, r)) (time_polled wants accepting turn old new told)
+  module _ (wants : List Want) (accepting : Bool) (turn : Turn) (old new : NetState L P)
+      (told : TellsTurn wants accepting turn old new) where
+    accounts_polled : (x f : ℕ) (who : List (Peer × P)) →
+        Accounts Holds plan (books old x f who) (books new x f who)
+    accounts_polled x f who = accounts_none Holds plan _ _ (ap (λ n. n.closed) told.state)
+        (ap (λ n. n.given) told.state) refl (ap (λ n. n.live) told.state) refl refl
+        (ap (λ n. n.bound) told.state) (ap (λ n. n.quiet) told.state)
+        (let p = ap (λ n. n.polls) told.state in let r =
+        raised_more old.polls in omega (arith, p, r))
+        (time_polled wants accepting turn old new told)
 
     -- a poll told to stop
-    pub steps_stopped : (x f : ℕ) (who : List (Peer × P)) → turn.stop ≡ true → Steps (Some why.Stopped) Holds plan limit accepted accepted (books old x f who) (books new x f who)
+    pub steps_stopped : (x f : ℕ) (who : List (Peer × P)) → turn.stop ≡ true →
+        Steps (Some why.Stopped) Holds plan limit accepted accepted (books old x f who)
+        (books new x f who)
     steps_stopped x f who stop = record {
       accounts = accounts_polled x f who;
-      knows = record { still = λ _. knows_polled wants accepting turn old new told; either = inr (knows_polled wants accepting turn old new told) };
+      knows = record {
+        still = λ _. knows_polled wants accepting turn old new told;
+        either =
+            inr (knows_polled wants accepting turn old new told);
+      };
       ends = record {
         stopped = ap (λ n. n.stopped) told.state ∙ stop;
         polled = let p = ap (λ n. n.polls) told.state in omega (arith, p);
@@ -122,50 +191,75 @@ module _ {L P : Type 0} (Holds : NetState L P → Retired L → Type 0) (plan : 
         given = ap (λ n. n.given) told.state;
         empty = λ q. told.quiet q stop;
       };
-      came_more = subst (λ n. CameMore limit accepted accepted (length old.given) n) (sym (ap (λ n. length n.given) told.state)) (more_none limit accepted (length old.given));
+      came_more = subst (λ n. CameMore limit accepted accepted (length old.given) n)
+          (sym (ap (λ n. length n.given) told.state)) (more_none limit accepted (length old.given));
     }
 
-    ends_polled : (result : Option Why) (x y f g : ℕ) (who who' : List (Peer × P)) (last : NetState L P) → turn.stop ≡ false →
-        StepEnds result limit accepted (books new x f who) (books last y g who') → StepEnds result limit accepted (books old x f who) (books last y g who')
+    ends_polled : (result : Option Why) (x y f g : ℕ) (who who' : List (Peer × P))
+        (last : NetState L P) → turn.stop ≡ false →
+        StepEnds result limit accepted (books new x f who) (books last y g who') →
+        StepEnds result limit accepted (books old x f who) (books last y g who')
     ends_polled None x y f g who who' last going h = h
     ends_polled (Some why.Stopped) x y f g who who' last going h = record {
       stopped = h.stopped;
-      polled = let p = ap (λ n. n.polls) told.state in let r = h.polled in let m = raised_more (raised old.polls) in grind (arith, p, r, m);
+      polled = let p = ap (λ n. n.polls) told.state in let r = h.polled in let m =
+          raised_more (raised old.polls) in grind (arith, p, r, m);
       poll = h.poll;
       last = h.last;
       told = h.told;
       given = h.given;
       empty = λ q. h.empty (ap (λ n. n.quiet) told.state ∙ q);
     }
-    ends_polled (Some why.LimitMet) x y f g who who' last going h =
-        (record { count = h.0.count; limited = h.0.limited; met = let m = h.0.met in let e = ap (λ n. length n.given) told.state in omega (arith, m, e) }, h.1, h.2)
+    ends_polled (Some why.LimitMet) x y f g who who' last going h = (
+      record {
+        count = h.0.count;
+        limited = h.0.limited;
+        met = let m = h.0.met in let e =
+            ap (λ n. length n.given) told.state in omega (arith, m, e);
+      },
+      h.1,
+      h.2,
+    )
     ends_polled (Some (why.Failed fault)) x y f g who who' last going h =
         λ s. absurd (let t = h s in let e = ap (λ n. n.stopped) told.state ∙ going in cc)
 
     -- a turn behind a poll that did not tell to stop
-    pub steps_carried : (later : (old new : NetState L P) → TimeGoesOn old new → (entry : Retired L) → Holds old entry → Holds new entry) (result : Option Why) (now x y f g : ℕ) (who who' : List (Peer × P))
+    pub steps_carried : (later : (old new : NetState L P) → TimeGoesOn old new →
+        (entry : Retired L) → Holds old entry → Holds new entry) (result : Option Why)
+        (now x y f g : ℕ) (who who' : List (Peer × P))
         (last : NetState L P) → turn.stop ≡ false →
-        Steps result Holds plan limit accepted now (books new x f who) (books last y g who') → Steps result Holds plan limit accepted now (books old x f who) (books last y g who')
+        Steps result Holds plan limit accepted now (books new x f who) (books last y g who') →
+        Steps result Holds plan limit accepted now (books old x f who) (books last y g who')
     steps_carried later result now x y f g who who' last going s = record {
       accounts = accounts_trans Holds plan later _ _ _ (accounts_polled x f who) s.accounts;
-      knows = record { still = λ _. s.knows.still (knows_polled wants accepting turn old new told); either = inr (s.knows.still (knows_polled wants accepting turn old new told)) };
+      knows = record {
+        still = λ _. s.knows.still (knows_polled wants accepting turn old new told);
+        either = inr (s.knows.still (knows_polled wants accepting turn old new told));
+      };
       ends = ends_polled result x y f g who who' last going s.ends;
-      came_more = subst (λ n. CameMore limit accepted now n (length last.given)) (ap (λ n. length n.given) told.state) s.came_more;
+      came_more = subst (λ n. CameMore limit accepted now n (length last.given))
+          (ap (λ n. length n.given) told.state) s.came_more;
     }
 
 -- the connections stay hosted
-pub hosts_polled : {L P A S R : Type 0} (e : Eyes L P) (old new : NetState L P) (seats : List (Seat L A S P R)) → new.live ≡ old.live → TimeGoesOn old new →
+pub hosts_polled : {L P A S R : Type 0} (e : Eyes L P) (old new : NetState L P)
+    (seats : List (Seat L A S P R)) → new.live ≡ old.live → TimeGoesOn old new →
     Hosts e old (map (λ seat. seat.lane) seats) → Hosts e new (map (λ seat. seat.lane) seats)
 hosts_polled e old new seats live time h =
-    hosts_seats e new seats (let r = hosted_room e old seats h in omega (arith, r, live)) (timely_goes_on e old new seats time (hosted_timely e old seats h))
+    hosts_seats e new seats (let r = hosted_room e old seats h in omega (arith, r, live))
+    (timely_goes_on e old new seats time (hosted_timely e old seats h))
 
 -- ---- the wants of a poll
 
-module _ {L A S P R : Type 0} (seats : List (Seat L A S P R)) (asked : ℕ) (before after : List Want) (count : asked ≡ length seats) (gathers : Gathers seats before)
+module _ {L A S P R : Type 0} (seats : List (Seat L A S P R)) (asked : ℕ) (before after : List Want)
+    (count : asked ≡ length seats) (gathers : Gathers seats before)
     (same : map asked_of after ≡ map asked_of before) where
-  asked_are : map asked_of after ≡ map (λ seat. asked_of seat.want) seats ++ map asked_of gathers.nudge
-  asked_are = same ∙ ap (map asked_of) gathers.are ∙ map-append asked_of (map (λ seat. seat.want) seats) gathers.nudge
-      ∙ ap (λ xs. xs ++ map asked_of gathers.nudge) (Rattle.poll_loop.proofs.Working.map_twice asked_of (λ seat. seat.want) seats)
+  asked_are : map asked_of after ≡ map (λ seat. asked_of seat.want) seats ++ map asked_of
+      gathers.nudge
+  asked_are = same ∙ ap (map asked_of) gathers.are ∙ map-append asked_of
+      (map (λ seat. seat.want) seats) gathers.nudge
+      ∙ ap (λ xs. xs ++ map asked_of gathers.nudge) (Rattle.poll_loop.proofs.Working.map_twice
+      asked_of (λ seat. seat.want) seats)
 
   many : asked ≡ length (map (λ seat. asked_of seat.want) seats)
   many = count ∙ sym (Rattle.poll_loop.proofs.Working.map_length (λ seat. asked_of seat.want) seats)
@@ -174,28 +268,35 @@ module _ {L A S P R : Type 0} (seats : List (Seat L A S P R)) (asked : ℕ) (bef
   is_asked = record {
     all = count;
     asks = sym (take-map asked_of asked after) ∙ ap (take asked) asked_are
-        ∙ subst (λ n. take n (map (λ seat. asked_of seat.want) seats ++ map asked_of gathers.nudge) ≡ map (λ seat. asked_of seat.want) seats) (sym many) (take-append_seam _ _);
+        ∙ subst (λ n. take n (map (λ seat. asked_of seat.want) seats ++ map asked_of gathers.nudge)
+        ≡ map (λ seat. asked_of seat.want) seats) (sym many) (take-append_seam _ _);
   }
 
   rest_are : map asked_of (drop asked after) ≡ map asked_of gathers.nudge
   rest_are = sym (drop-map asked_of asked after) ∙ ap (drop asked) asked_are
-      ∙ subst (λ n. drop n (map (λ seat. asked_of seat.want) seats ++ map asked_of gathers.nudge) ≡ map asked_of gathers.nudge) (sym many) (drop-append_seam (map (λ seat. asked_of seat.want) seats) (map asked_of gathers.nudge))
+      ∙ subst (λ n. drop n (map (λ seat. asked_of seat.want) seats ++ map asked_of gathers.nudge) ≡
+      map asked_of gathers.nudge) (sym many) (drop-append_seam
+      (map (λ seat. asked_of seat.want) seats) (map asked_of gathers.nudge))
 
   pub as_long : asked ≤ length after
   as_long =
       let a = ap length asked_are in
       let b = Rattle.poll_loop.proofs.Working.map_length asked_of after in
-      let c = Rattle.std.proofs.Common.length-append (map (λ seat. asked_of seat.want) seats) (map asked_of gathers.nudge) in
+      let c = Rattle.std.proofs.Common.length-append (map (λ seat. asked_of seat.want) seats)
+      (map asked_of gathers.nudge) in
       let d = many in
       omega (arith, a, b, c, d)
 
-  pub nudged : (due : Bool) → list_any (λ seat. works seat.mark) seats ≡ due → Nudges due (drop asked after)
-  nudged due is = nudges_as due gathers.nudge (drop asked after) (sym rest_are) (subst (λ b. Nudges b gathers.nudge) is gathers.nudges)
+  pub nudged : (due : Bool) → list_any (λ seat. works seat.mark) seats ≡ due →
+      Nudges due (drop asked after)
+  nudged due is = nudges_as due gathers.nudge (drop asked after) (sym rest_are)
+      (subst (λ b. Nudges b gathers.nudge) is gathers.nudges)
     where
       nothing_as : (a b : Want) → asked_of b ≡ asked_of a → AsksNothing a → AsksNothing b
       nothing_as a b e h = (ap (λ x. x.1) e ∙ h.0, ap (λ x. x.2) e ∙ h.1)
 
-      each_as : (xs ys : List Want) → map asked_of ys ≡ map asked_of xs → EachIs AsksNothing xs → EachIs AsksNothing ys
+      each_as : (xs ys : List Want) → map asked_of ys ≡ map asked_of xs → EachIs AsksNothing xs →
+          EachIs AsksNothing ys
       each_as [] [] e h = tt
       each_as [] (y ∷ ys) e h = cc
       each_as (x ∷ xs) [] e h = cc
@@ -207,7 +308,8 @@ module _ {L A S P R : Type 0} (seats : List (Seat L A S P R)) (asked : ℕ) (bef
           tails : {X : Type 0} {a b : X} {ks ls : List X} → a ∷ ks ≡ b ∷ ls → ks ≡ ls
           tails e = cc
 
-      nudges_as : (due : Bool) (xs ys : List Want) → map asked_of xs ≡ map asked_of ys → Nudges due xs → Nudges due ys
+      nudges_as : (due : Bool) (xs ys : List Want) → map asked_of xs ≡ map asked_of ys →
+          Nudges due xs → Nudges due ys
       nudges_as true xs ys e h =
           let a = ap length e in
           let b = Rattle.poll_loop.proofs.Working.map_length asked_of xs in
@@ -218,27 +320,45 @@ module _ {L A S P R : Type 0} (seats : List (Seat L A S P R)) (asked : ℕ) (bef
           let a = ap length e in
           let b = Rattle.poll_loop.proofs.Working.map_length asked_of ys in
           let c = ap length h in
-          Rattle.poll_loop.proofs.Carrying.none_left ys (let d : length (map asked_of xs) ≡ length xs = Rattle.poll_loop.proofs.Working.map_length asked_of xs in omega (arith, a, b, c, d))
+          Rattle.poll_loop.proofs.Carrying.none_left ys (let d : length (map asked_of xs) ≡ length
+          xs = Rattle.poll_loop.proofs.Working.map_length asked_of xs in omega
+          (arith, a, b, c, d))
 
-marked_due : (w : Window) (m : Mark) (s : Rattle.channel.specs.Views.Shown) → MarkHolds w m s → works m ≡ is_due w s
+marked_due : (w : Window) (m : Mark) (s : Rattle.channel.specs.Views.Shown) → MarkHolds w m s →
+    works m ≡ is_due w s
 marked_due w mark.Rests s h = sym h
 marked_due w mark.Works s h = sym h
 marked_due w (mark.Over end) s h = absurd h
 
-pub due_by_marks : {L P A S R : Type 0} (e : Eyes L P) (w : Window) (seats : List (Seat L A S P R)) → EachIs (SeatRests e w) seats →
-    list_any (λ seat. works seat.mark) seats ≡ is_some_due w (map (viewed e) (map (λ seat. seat.lane) seats))
+pub due_by_marks : {L P A S R : Type 0} (e : Eyes L P) (w : Window)
+    (seats : List (Seat L A S P R)) → EachIs (SeatRests e w) seats →
+    list_any (λ seat. works seat.mark) seats ≡ is_some_due w
+    (map (viewed e) (map (λ seat. seat.lane) seats))
 due_by_marks e w [] h = refl
 due_by_marks e w (s ∷ ss) h =
-    ap (λ b. b || list_any (λ seat. works seat.mark) ss) (marked_due w s.mark s.lane.shown h.0.holds.marked) ∙ ap (λ b. is_due w s.lane.shown || b) (due_by_marks e w ss h.1)
+    ap (λ b. b || list_any (λ seat. works seat.mark) ss)
+    (marked_due w s.mark s.lane.shown h.0.holds.marked) ∙
+    ap (λ b. is_due w s.lane.shown || b) (due_by_marks e w ss h.1)
 
 -- ---- a turn
 
-pub no_idle_by : {L P A R : Type 0} (e : Eyes L P) (before now : Serving L A R) (wants : List Want) (asked : ℕ) (accepting : Bool) (turn : Turn) (old mid new : NetState L P) →
-    TellsTurn wants accepting turn old mid → Carries e (take asked wants) turn before now mid new → turn.stop ≡ false → accepting ≡ is_accepting before →
-    Nudges (is_some_due before.settings.window (views e before)) (drop asked wants) → NoIdle e before now old new
-no_idle_by {L} {P} e before now wants asked accepting turn old mid new told c unstopped accepts nudges =
+pub no_idle_by : {L P A R : Type 0} (e : Eyes L P) (before now : Serving L A R) (wants : List Want)
+    (asked : ℕ) (accepting : Bool) (turn : Turn) (old mid new : NetState L P) →
+    TellsTurn wants accepting turn old mid → Carries e (take asked wants) turn before now mid new →
+    turn.stop ≡ false → accepting ≡ is_accepting before →
+    Nudges (is_some_due before.settings.window (views e before)) (drop asked wants) →
+    NoIdle e before now old new
+no_idle_by {L} {P} e before now wants asked accepting turn old mid new told c unstopped accepts
+    nudges =
     let s = told.state in
-    let poll : Poll P = record { wants = wants; accepting = accepting; turn = turn; given = old.given; live = old.live } in
+    let poll : Poll P = record {
+      wants = wants;
+      accepting = accepting;
+      turn = turn;
+      given =
+          old.given;
+      live = old.live;
+    } in
     record {
       polled = c.polls.polls ∙ ap (λ n. n.polls) s;
       poll = poll;
@@ -263,10 +383,13 @@ no_idle_by {L} {P} e before now wants asked accepting turn old mid new told c un
         subst (λ k. Rose k new.asked) (ap (λ n. n.asked) s) a.0,
         elim a.1 [
           | inl p ↦ inl (subst (λ k. Rose k new.put_off) (ap (λ n. n.put_off) s) p)
-          | inr h ↦ inr (let x = ap (λ n. length n.closed) s in let y = ap (λ n. n.live) s in omega (arith, h, x, y))
+          | inr h ↦ inr (let x = ap (λ n. length n.closed) s in let y =
+              ap (λ n. n.live) s in omega (arith, h, x, y))
         ],
       );
-      all = λ come. subst (λ k. Rose k new.put_off ⊎ ((before.settings.connection_limit ≤ length before.open' + length c.since) ⊎ (is_below before.settings.serve_limit now.accepted ≡ false)))
+      all = λ come. subst (λ k. Rose k new.put_off ⊎ ((before.settings.connection_limit ≤ length
+          before.open' + length c.since) ⊎ (is_below before.settings.serve_limit
+          now.accepted ≡ false)))
           (ap (λ n. n.put_off) s) (c.all come);
       uncalled = λ none. c.uncalled none ∙ ap (λ n. n.given) s;
       on_time = c.on_time;
@@ -275,6 +398,7 @@ no_idle_by {L} {P} e before now wants asked accepting turn old mid new told c un
       unmet = c.unmet;
     }
 
-pub on_ok : {X E : Type 0} (r : Rattle.std.specs.Prelude.Result X E) (P : Type 0) → Rattle.std.specs.Prelude.is_err r ≡ false → Rattle.std.specs.Prelude.OnOk r P → P
+pub on_ok : {X E : Type 0} (r : Rattle.std.specs.Prelude.Result X E) (P : Type 0) →
+    Rattle.std.specs.Prelude.is_err r ≡ false → Rattle.std.specs.Prelude.OnOk r P → P
 on_ok (Rattle.std.specs.Prelude.Ok x) P e h = h
 on_ok (Rattle.std.specs.Prelude.Err x) P e h = cc

@@ -1,5 +1,27 @@
 -- Internal: what the parts of a turn do to the connections.
-use Rattle.std.specs.Prelude.{◌≡◌, ◌≤◌, ◌<◌, ◌+◌, ◌⊎◌, ℕ, Bool, true, false, IsTrue, List, [], ◌∷◌, ◌++◌, length, map, take, Option, None, Some, IsPermutation}
+use Rattle.std.specs.Prelude.{
+  ◌≡◌,
+  ◌≤◌,
+  ◌<◌,
+  ◌+◌,
+  ◌⊎◌,
+  ℕ,
+  Bool,
+  true,
+  false,
+  IsTrue,
+  List,
+  [],
+  ◌∷◌,
+  ◌++◌,
+  length,
+  map,
+  take,
+  Option,
+  None,
+  Some,
+  IsPermutation,
+}
 use Rattle.std.specs.List.{list_any}
 use Rattle.channel.specs.Owed.{owed_by}
 use Rattle.channel.specs.Output.{Script}
@@ -50,15 +72,20 @@ going_on broke = record { shutdown = ⊥; broke = broke }
 abbrev pub shutting_down : Type 0 → Grounds
 shutting_down broke = record { shutdown = Unit {0}; broke = broke }
 
--- What holds of an entry while serving goes on, and where the server goes down: by the kinds of links, of spills, of the
+-- What holds of an entry while serving goes on, and where the server goes down: by the kinds of
+-- links, of spills, of the
 -- application and of its runs.
-abbrev pub holds_on : {L P S A R : Type 0} → Links L P → Spills S → Apps A S R → Runs R S → Settings → A → NetState L P → Retired L → Type 0
+abbrev pub holds_on : {L P S A R : Type 0} → Links L P → Spills S → Apps A S R → Runs R S →
+    Settings → A → NetState L P → Retired L → Type 0
 holds_on link spill app run settings a =
-    EntryHolds (service_by (telling link.tells spill.tells app.tells) app.script settings a) (going_on (HasBroken run.faults)) link.state link.faults
+    EntryHolds (service_by (telling link.tells spill.tells app.tells) app.script settings a)
+    (going_on (HasBroken run.faults)) link.state link.faults
 
-abbrev pub holds_down : {L P S A R : Type 0} → Links L P → Spills S → Apps A S R → Runs R S → Settings → A → NetState L P → Retired L → Type 0
+abbrev pub holds_down : {L P S A R : Type 0} → Links L P → Spills S → Apps A S R → Runs R S →
+    Settings → A → NetState L P → Retired L → Type 0
 holds_down link spill app run settings a =
-    EntryHolds (service_by (telling link.tells spill.tells app.tells) app.script settings a) (shutting_down (HasBroken run.faults)) link.state link.faults
+    EntryHolds (service_by (telling link.tells spill.tells app.tells) app.script settings a)
+    (shutting_down (HasBroken run.faults)) link.state link.faults
 
 -- ---- the seats
 
@@ -122,7 +149,8 @@ pub record Takes {L P A S R : Type 0} (e : Eyes L P) (settings : Settings) (app 
   pub shown : EachIs (λ seat. seat.lane.shown ≡ fresh now) came
 
 -- one more connection has a seat
-pub record SeatsOne {L P A S R : Type 0} (e : Eyes L P) (settings : Settings) (app : A) (now : ℕ) (link : L)
+pub record SeatsOne {L P A S R : Type 0} (e : Eyes L P) (settings : Settings) (app : A) (now : ℕ)
+    (link : L)
     (peer : Peer) (olds news : List (Seat L A S P R)) : Type 0 where
   pub seat : Seat L A S P R
   pub are : news ≡ olds ++ seat ∷ []
@@ -134,7 +162,8 @@ pub record SeatsOne {L P A S R : Type 0} (e : Eyes L P) (settings : Settings) (a
 
 -- the net was asked: a connection came, or it put off
 abbrev pub CameBy : {L P : Type 0} → Came → NetState L P → NetState L P → Type 0
-CameBy came.One old new = Rose old.asked new.asked × (length old.given < length new.given) × (new.put_off ≡ old.put_off)
+CameBy came.One old new = Rose old.asked new.asked × (length old.given < length new.given)
+    × (new.put_off ≡ old.put_off)
 CameBy came.Nobody old new = Rose old.asked new.asked × Rose old.put_off new.put_off
 CameBy came.Failed old new = Unit {0}
 CameBy came.NoMemory old new = Unit {0}
@@ -146,15 +175,18 @@ CameAll came.Nobody old new = Answers old new
 CameAll came.Failed old new = Unit {0}
 CameAll came.NoMemory old new = Unit {0}
 
--- The net was asked until it put off, unless so many came as there was room for beside those that were open, or
+-- The net was asked until it put off, unless so many came as there was room for beside those that
+-- were open, or
 -- all that are to be served were accepted.
 abbrev pub AcceptsAll : {L P : Type 0} → Settings → ℕ → ℕ → NetState L P → NetState L P → Type 0
 AcceptsAll settings open' accepted old new =
-    Rose old.put_off new.put_off ⊎ ((settings.connection_limit + length old.given ≤ open' + length new.given) ⊎
+    Rose old.put_off new.put_off ⊎ ((settings.connection_limit + length old.given ≤ open' + length
+    new.given) ⊎
     (is_below settings.serve_limit accepted ≡ false))
 
 -- the same unless accepting failed
-abbrev pub CameUntil : {L P : Type 0} → Came → Settings → ℕ → ℕ → NetState L P → NetState L P → Type 0
+abbrev pub CameUntil : {L P : Type 0} → Came → Settings → ℕ → ℕ → NetState L P → NetState L P →
+    Type 0
 CameUntil came.One settings open' accepted old new = AcceptsAll settings open' accepted old new
 CameUntil came.Nobody settings open' accepted old new = AcceptsAll settings open' accepted old new
 CameUntil came.Failed settings open' accepted old new = Unit {0}
@@ -170,7 +202,8 @@ CameCause came.NoMemory before now = now ≡ before
 -- ---- shutting down
 
 -- Those that were open were shut down, and nothing else was done.
-pub record ShutsDown {L P : Type 0} (Holds : Retired L → Type 0) (plan : L → P) (who : List (Peer × P)) (old new : NetState L P) : Type 0 where
+pub record ShutsDown {L P : Type 0} (Holds : Retired L → Type 0) (plan : L → P)
+    (who : List (Peer × P)) (old new : NetState L P) : Type 0 where
   pub entries : List (Retired L)
   pub state : new ≡ record old { closed = old.closed ++ entries; live = new.live }
   pub each : EachIs Holds entries
@@ -186,10 +219,11 @@ works mark.Rests = false
 works (mark.Over end) = false
 
 -- the wants of all, and one that asks nothing where one of them has a step to make
-pub record Gathers {L A S P R : Type 0} (seats : List (Seat L A S P R)) (wants : List Want) : Type 0 where
-  pub nudge : List Want
-  pub are : wants ≡ map (λ seat. seat.want) seats ++ nudge
-  pub nudges : Nudges (list_any (λ seat. works seat.mark) seats) nudge
+pub record Gathers {L A S P R : Type 0} (seats : List (Seat L A S P R)) (wants : List Want) : Type 0
+  where
+    pub nudge : List Want
+    pub are : wants ≡ map (λ seat. seat.want) seats ++ nudge
+    pub nudges : Nudges (list_any (λ seat. works seat.mark) seats) nudge
 
 -- this is the moment of the last turn, and lies behind the first
 pub record IsNow {L P : Type 0} (net : NetState L P) (now : ℕ) : Type 0 where
@@ -197,6 +231,7 @@ pub record IsNow {L P : Type 0} (net : NetState L P) (now : ℕ) : Type 0 where
   pub within : IsWithin net now
 
 -- the first so many wants are those of the seats, as a poll left them
-pub record IsAsked {L A S P R : Type 0} (seats : List (Seat L A S P R)) (asked : ℕ) (wants : List Want) : Type 0 where
+pub record IsAsked {L A S P R : Type 0} (seats : List (Seat L A S P R)) (asked : ℕ)
+    (wants : List Want) : Type 0 where
   pub all : asked ≡ length seats
   pub asks : map asked_of (take asked wants) ≡ map (λ seat. asked_of seat.want) seats

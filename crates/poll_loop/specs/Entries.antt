@@ -1,5 +1,18 @@
 -- What a server owes to each connection that it retired.
-use Rattle.std.specs.Prelude.{◌≡◌, ◌≤◌, ◌<◌, ℕ, Bool, IsTrue, true, false, List, length, filter, Some}
+use Rattle.std.specs.Prelude.{
+  ◌≡◌,
+  ◌≤◌,
+  ◌<◌,
+  ℕ,
+  Bool,
+  IsTrue,
+  true,
+  false,
+  List,
+  length,
+  filter,
+  Some,
+}
 use Rattle.channel.specs.Output.{Input, IsPrefix}
 use Rattle.channel.specs.Views.{IsServed, Owed, Telling, WaitedTooLong}
 use Rattle.outside.specs.Link.{LinkState}
@@ -22,22 +35,26 @@ pub record IsTimely {L P : Type 0} (net : NetState L P) (link : LinkState) : Typ
   pub came : EachIs (λ p. IsWithin net p.0) link.arrivals
   pub touched : IsWithin net link.touched
 
--- What connections are served by: which of its parts tell, after how long an idle one ends, and what a peer
+-- What connections are served by: which of its parts tell, after how long an idle one ends, and
+-- what a peer
 -- is owed for what it sent.
 pub record Service : Type 0 where
   pub tells : Telling
   pub timeout : ℕ
   pub owed : Peer → Input → Owed
 
--- Why serving may end connections that are not done, and did nothing: the whole server went down, or the run
+-- Why serving may end connections that are not done, and did nothing: the whole server went down,
+-- or the run
 -- of an application broke.
 pub record Grounds : Type 1 where
   pub shutdown : Type 0
   pub broke : Type 0
 
 -- Why a link was retired. A fault of a spill is counted by the spills.
-abbrev pub EndHolds : {L P : Type 0} → Service → Grounds → NetState L P → LinkState → ℕ → Owed → End → Type 0
-EndHolds service grounds net link faults owed over.Done = IsTrue service.tells.all → IsServed link owed
+abbrev pub EndHolds : {L P : Type 0} → Service → Grounds → NetState L P → LinkState → ℕ → Owed →
+    End → Type 0
+EndHolds service grounds net link faults owed over.Done = IsTrue service.tells.all →
+    IsServed link owed
 EndHolds service grounds net link faults owed over.LinkFault = 0 < faults
 EndHolds service grounds net link faults owed over.SpillFault = Unit {0}
 EndHolds service grounds net link faults owed over.AppFault = grounds.broke
@@ -46,7 +63,8 @@ EndHolds service grounds net link faults owed (over.TimedOut touched now) =
     WaitedTooLong service.tells service.timeout link owed touched now × (now ≤ last_moment net.last)
 EndHolds service grounds net link faults owed over.ShutDown = grounds.shutdown
 
--- A retired link was sent a prefix of what is owed for what arrived there, at moments of the net, and its end
+-- A retired link was sent a prefix of what is owed for what arrived there, at moments of the net,
+-- and its end
 -- has its cause.
 pub record EntryHolds {L P : Type 0} (service : Service) (grounds : Grounds) (state : L → LinkState)
     (faults : L → ℕ) (net : NetState L P) (entry : Retired L) : Type 0 where

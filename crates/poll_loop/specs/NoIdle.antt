@@ -1,7 +1,48 @@
 -- No turn is idle: what a turn does that lets serving go on.
-use Rattle.std.specs.Prelude.{◌≡◌, ◌≤◌, ◌<◌, ◌+◌, ◌⊎◌, ◌&&◌, ℕ, Bool, true, false, IsTrue, List, [], ◌∷◌, ◌++◌, length, map, nat_le, nat_lt, Option, None, Some, IfSome, if◌then◌else◌}
+use Rattle.std.specs.Prelude.{
+  ◌≡◌,
+  ◌≤◌,
+  ◌<◌,
+  ◌+◌,
+  ◌⊎◌,
+  ◌&&◌,
+  ℕ,
+  Bool,
+  true,
+  false,
+  IsTrue,
+  List,
+  [],
+  ◌∷◌,
+  ◌++◌,
+  length,
+  map,
+  nat_le,
+  nat_lt,
+  Option,
+  None,
+  Some,
+  IfSome,
+  if◌then◌else◌,
+}
 use Rattle.std.specs.List.{list_any}
-use Rattle.channel.specs.Views.{Heard, LinkGoes, Moves, Seen, Spoke, Stamps, Steps, Stirs, View, fresh, is_done, is_due, is_late, is_writable, want_of}
+use Rattle.channel.specs.Views.{
+  Heard,
+  LinkGoes,
+  Moves,
+  Seen,
+  Spoke,
+  Stamps,
+  Steps,
+  Stirs,
+  View,
+  fresh,
+  is_done,
+  is_due,
+  is_late,
+  is_writable,
+  want_of,
+}
 use Rattle.channel.specs.declared.types.Window.{Window}
 use Rattle.outside.specs.Causes.{Rose, raised}
 use Rattle.outside.specs.Link.{opened}
@@ -16,8 +57,10 @@ use Rattle.poll_loop.specs.declared.settings.Settings.{Settings}
 
 -- ---- a server
 
--- A server as contracts see it: what it goes by, its open connections in the order in which they came, how
--- many it accepted and retired, the moment of its last idle check, or else of its first turn, and the runs
+-- A server as contracts see it: what it goes by, its open connections in the order in which they
+-- came, how
+-- many it accepted and retired, the moment of its last idle check, or else of its first turn, and
+-- the runs
 -- that broke.
 pub record Serving (L A R : Type 0) : Type 0 where
   pub app : A
@@ -38,27 +81,31 @@ who e s = map (λ lane. (lane.peer, e.plan lane.link)) s.open'
 
 -- whether a turn accepts
 abbrev pub is_accepting : {L A R : Type 0} → Serving L A R → Bool
-is_accepting s = nat_lt (length s.open') s.settings.connection_limit && is_below s.settings.serve_limit s.accepted
+is_accepting s = nat_lt (length s.open') s.settings.connection_limit && is_below
+    s.settings.serve_limit s.accepted
 
 -- the moment from which the next idle check is due, in a turn of this moment
 abbrev pub checked_by : ℕ → Option ℕ → ℕ
 checked_by now None = now
 checked_by now (Some moment) = moment
 
--- the moment from which the next idle check is counted, behind a turn of this moment: this one, where a check
+-- the moment from which the next idle check is counted, behind a turn of this moment: this one,
+-- where a check
 -- was due
 abbrev pub checked_after : ℕ → Option ℕ → ℕ → Option ℕ
 checked_after now checked interval =
     Some (if nat_le (checked_by now checked + interval) now then now else checked_by now checked)
 
 -- the server's connections are open on the net, and came and were touched at moments of it
-pub record Hosts {L P A : Type 0} (e : Eyes L P) (net : NetState L P) (lanes : List (Seen L A)) : Type 0 where
+pub record Hosts {L P A : Type 0} (e : Eyes L P) (net : NetState L P) (lanes : List (Seen L A)) :
+    Type 0 where
   pub room : length lanes ≤ net.live
   pub timely : IsTrue e.tells → EachIs (λ lane. IsTimely net (e.state lane.link)) lanes
 
 -- ---- a turn
 
--- One channel that was open when the turn began: its want as the poll left it, the channel then, and the
+-- One channel that was open when the turn began: its want as the poll left it, the channel then,
+-- and the
 -- channel at the end of the turn, where it was not retired.
 pub record Case : Type 0 where
   pub ready : Want
@@ -89,7 +136,8 @@ pub record Serves (now : ℕ) (w : Window) (ready : Want) (old new : View) : Typ
   -- what still waits to be sent was offered to the link, unless nothing was done
   pub offered : IsTrue (is_writable new.shown) → (new ≡ old) ⊎ Spoke old new
   -- what is neither ready nor due is left alone, but an idle check sends what waits to be sent
-  pub rested : (ready.read && ready.may_read) ≡ false → (ready.write && ready.may_write) ≡ false → is_due w old.shown ≡ false →
+  pub rested : (ready.read && ready.may_read) ≡ false → (ready.write && ready.may_write) ≡ false →
+      is_due w old.shown ≡ false →
       (new ≡ old) ⊎ Spoke old new
   -- what rises has its cause
   pub moves : Moves old.shown new.shown
@@ -97,7 +145,8 @@ pub record Serves (now : ℕ) (w : Window) (ready : Want) (old new : View) : Typ
   -- what came bears the moment of the turn, and so does the last touch where it is new
   pub stamps : Stamps now old.link new.link
 
--- Each channel that was open wanted something, had something to do or was over; the poll got its want.
+-- Each channel that was open wanted something, had something to do or was over; the poll got its
+-- want.
 pub record Asks (now : ℕ) (w : Window) (c : Case) : Type 0 where
   pub wants : asked_of c.ready ≡ want_of w c.old
   pub stirs : Stirs w c.old.shown
@@ -127,7 +176,8 @@ Answers old new = Rose old.asked new.asked ×
     (Rose old.put_off new.put_off ⊎ (length old.closed + old.live < length new.closed + new.live))
 
 -- A turn that lets serving go on.
-pub record NoIdle {L P A R : Type 0} (e : Eyes L P) (before now : Serving L A R) (old new : NetState L P) : Type 0 where
+pub record NoIdle {L P A R : Type 0} (e : Eyes L P) (before now : Serving L A R)
+    (old new : NetState L P) : Type 0 where
   -- the one poll: it found the net as the turn did, and did not tell to stop
   pub polled : new.polls ≡ raised old.polls
   pub poll : Poll P
@@ -152,7 +202,8 @@ pub record NoIdle {L P A R : Type 0} (e : Eyes L P) (before now : Serving L A R)
   pub given_since : new.given ≡ old.given ++ since
   pub few : length came ≤ length since
   pub answers : IsTrue poll.turn.come → Answers old new
-  -- where somebody came, the net was asked until it put off, unless so many came as there is room for or are to
+  -- where somebody came, the net was asked until it put off, unless so many came as there is room
+  -- for or are to
   -- be served
   pub all : IsTrue poll.turn.come → Rose old.put_off new.put_off ⊎
       ((before.settings.connection_limit ≤ length before.open' + length since) ⊎
@@ -160,9 +211,11 @@ pub record NoIdle {L P A R : Type 0} (e : Eyes L P) (before now : Serving L A R)
   -- nobody is accepted whom no poll told
   pub uncalled : poll.turn.come ≡ false → new.given ≡ old.given
   -- nobody who is left open waited for too long, where an idle check was due
-  pub on_time : checked_by poll.turn.now before.checked + before.settings.cleanup_interval ≤ poll.turn.now →
+  pub on_time : checked_by poll.turn.now before.checked + before.settings.cleanup_interval ≤
+      poll.turn.now →
       EachIs (λ v. is_late poll.turn.now before.settings.window v.shown ≡ false) (views e now)
-  pub checked : now.checked ≡ checked_after poll.turn.now before.checked before.settings.cleanup_interval
+  pub checked : now.checked ≡ checked_after poll.turn.now before.checked
+      before.settings.cleanup_interval
   -- no more are open than may be, and more are to be served
   pub within : length now.open' ≤ before.settings.connection_limit
   pub unmet : IsTrue (is_below before.settings.serve_limit now.retired)

@@ -1,6 +1,39 @@
 -- Internal: what a turn does to one connection.
-use Rattle.std.specs.Prelude.{◌≡◌, ◌≤◌, ◌&&◌, ◌⊎◌, ℕ, List, length, Bool, true, false, IsTrue, Option, None, Some}
-use Rattle.channel.specs.Views.{Heard, LinkGoes, Moves, Seen, Shown, Spoke, Stamps, Steps, Stirs, View, is_done, is_due, is_late, is_writable, over_of, view, want_of}
+use Rattle.std.specs.Prelude.{
+  ◌≡◌,
+  ◌≤◌,
+  ◌&&◌,
+  ◌⊎◌,
+  ℕ,
+  List,
+  length,
+  Bool,
+  true,
+  false,
+  IsTrue,
+  Option,
+  None,
+  Some,
+}
+use Rattle.channel.specs.Views.{
+  Heard,
+  LinkGoes,
+  Moves,
+  Seen,
+  Shown,
+  Spoke,
+  Stamps,
+  Steps,
+  Stirs,
+  View,
+  is_done,
+  is_due,
+  is_late,
+  is_writable,
+  over_of,
+  view,
+  want_of,
+}
 use Rattle.channel.specs.declared.types.Window.{Window}
 use Rattle.outside.specs.Link.{LinkState}
 use Rattle.outside.specs.Net.{asked_of}
@@ -87,7 +120,8 @@ pub record Speaks (tells : Bool) (old new : View) : Type 0 where
 
 -- something is ready or a step is due
 abbrev pub IsCalled : Window → Want → Shown → Type 0
-IsCalled w ready s = (ready.read && ready.may_read) ≡ false → (ready.write && ready.may_write) ≡ false → is_due w s ≡ false → ⊥
+IsCalled w ready s = (ready.read && ready.may_read) ≡ false →
+    (ready.write && ready.may_write) ≡ false → is_due w s ≡ false → ⊥
 
 -- What a turn does to a channel that stays up; ready is its want as the poll left it.
 pub record Attends (tells : Bool) (w : Window) (ready : Want) (old new : View) : Type 0 where
@@ -98,7 +132,8 @@ pub record Attends (tells : Bool) (w : Window) (ready : Want) (old new : View) :
   -- what still waits to be sent was offered, unless nothing was done
   pub offered : IsTrue tells → IsTrue (is_writable new.shown) → (new ≡ old) ⊎ Spoke old new
   -- what is neither ready nor due is left alone
-  pub rested : (ready.read && ready.may_read) ≡ false → (ready.write && ready.may_write) ≡ false → is_due w old.shown ≡ false → new ≡ old
+  pub rested : (ready.read && ready.may_read) ≡ false → (ready.write && ready.may_write) ≡ false →
+      is_due w old.shown ≡ false → new ≡ old
 
 -- An idle check leaves it up, and on time.
 pub record Passes (tells : Bool) (now : ℕ) (w : Window) (old new : View) : Type 0 where
@@ -120,7 +155,8 @@ MarkHolds w mark.Rests s = is_due w s ≡ false
 MarkHolds w mark.Works s = is_due w s ≡ true
 MarkHolds w (mark.Over end) s = ⊥
 
--- A seat between two turns: it is up, its want is that of its channel, and its mark says whether a step can
+-- A seat between two turns: it is up, its want is that of its channel, and its mark says whether a
+-- step can
 -- be made.
 pub record SeatHolds (w : Window) (want : Want) (m : Mark) (v : View) : Type 0 where
   pub up : IsUp v.shown
@@ -160,7 +196,14 @@ pub record Eyes (L P : Type 0) : Type 0 where
   pub plan : L → P
 
 abbrev pub eyes_of : {L P : Type 0} → Ghosts L P → Eyes L P
-eyes_of link = record { tells = link.tells; state = link.state; faults = link.faults; key = link.key; plan = link.plan }
+eyes_of link = record {
+  tells = link.tells;
+  state = link.state;
+  faults = link.faults;
+  key =
+      link.key;
+  plan = link.plan;
+}
 
 abbrev pub viewed : {L P A : Type 0} → Eyes L P → Seen L A → View
 viewed e lane = view e.state e.faults e.key lane
@@ -179,40 +222,48 @@ pub record Goes {L P A : Type 0} (e : Eyes L P) (now : ℕ) (old new : Seen L A)
 -- ---- the seats of a server
 
 -- a seat between two turns
-pub record SeatRests {L P A S R : Type 0} (e : Eyes L P) (w : Window) (seat : Seat L A S P R) : Type 0 where
+pub record SeatRests {L P A S R : Type 0} (e : Eyes L P) (w : Window) (seat : Seat L A S P R) : Type
+    0 where
   pub window : seat.lane.fixed.window ≡ w
   pub holds : SeatHolds w seat.want seat.mark (viewed e seat.lane)
 
 -- a seat whose want the poll got
-pub record SeatAsks {L P A S R : Type 0} (e : Eyes L P) (w : Window) (ready : Want) (seat : Seat L A S P R) : Type 0 where
+pub record SeatAsks {L P A S R : Type 0} (e : Eyes L P) (w : Window) (ready : Want)
+    (seat : Seat L A S P R) : Type 0 where
   pub rests : SeatRests e w seat
   pub asks : asked_of ready ≡ asked_of seat.want
 
 -- what a turn does to one seat
-pub record SeatTurns {L P A S R : Type 0} (e : Eyes L P) (now : ℕ) (w : Window) (ready : Want) (old new : Seat L A S P R) : Type 0 where
+pub record SeatTurns {L P A S R : Type 0} (e : Eyes L P) (now : ℕ) (w : Window) (ready : Want)
+    (old new : Seat L A S P R) : Type 0 where
   pub goes : Goes e now old.lane new.lane
   pub leaves : OverOrHolds now w new.want new.mark (viewed e new.lane)
       (Attends e.tells w ready (viewed e old.lane) (viewed e new.lane))
 
 -- a seat that is to be retired, or rests
-pub record SeatOut {L P A S R : Type 0} (e : Eyes L P) (now : ℕ) (w : Window) (seat : Seat L A S P R) : Type 0 where
+pub record SeatOut {L P A S R : Type 0} (e : Eyes L P) (now : ℕ) (w : Window)
+    (seat : Seat L A S P R) : Type 0 where
   pub window : seat.lane.fixed.window ≡ w
   pub is : OverOrHolds now w seat.want seat.mark (viewed e seat.lane) (Unit {0})
 
 -- what an idle check does to one seat: nothing to one that is over
-pub record SeatChecks {L P A S R : Type 0} (e : Eyes L P) (now : ℕ) (w : Window) (old new : Seat L A S P R) : Type 0 where
+pub record SeatChecks {L P A S R : Type 0} (e : Eyes L P) (now : ℕ) (w : Window)
+    (old new : Seat L A S P R) : Type 0 where
   pub goes : Goes e now old.lane new.lane
   pub over : is_open old.mark ≡ false → new ≡ old
   pub passes : IsTrue (is_open old.mark) → OverOrHolds now w new.want new.mark (viewed e new.lane)
       (Passes e.tells now w (viewed e old.lane) (viewed e new.lane))
 
 -- an idle check, where it is due
-abbrev pub ChecksIf : {L P A S R : Type 0} → Bool → Eyes L P → ℕ → Window → Seat L A S P R → Seat L A S P R → Type 0
+abbrev pub ChecksIf : {L P A S R : Type 0} → Bool → Eyes L P → ℕ → Window → Seat L A S P R →
+    Seat L A S P R → Type 0
 ChecksIf true e now w old new = SeatChecks e now w old new
 ChecksIf false e now w old new = new ≡ old
 
--- each seat that the poll was asked for had its part of the turn, and all theirs of the idle check, where it was due
-pub record Labours {L P A S R : Type 0} (due : Bool) (e : Eyes L P) (now : ℕ) (w : Window) (wants : List Want)
+-- each seat that the poll was asked for had its part of the turn, and all theirs of the idle check,
+-- where it was due
+pub record Labours {L P A S R : Type 0} (due : Bool) (e : Eyes L P) (now : ℕ) (w : Window)
+    (wants : List Want)
     (olds news : List (Seat L A S P R)) : Type 0 where
   pub mids : List (Seat L A S P R)
   pub turns : UpTo (SeatTurns e now w) (length wants) wants olds mids

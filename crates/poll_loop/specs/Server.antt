@@ -1,5 +1,29 @@
 -- A server between two turns.
-use Rattle.std.specs.Prelude.{◌≡◌, ◌≤◌, ◌<◌, ◌+◌, ◌⊎◌, ℕ, All, IsTrue, List, [], false, ◌++◌, filter, length, map, nat_le, vec_capacity, Option, None, Some, Result, Ok, Err}
+use Rattle.std.specs.Prelude.{
+  ◌≡◌,
+  ◌≤◌,
+  ◌<◌,
+  ◌+◌,
+  ◌⊎◌,
+  ℕ,
+  All,
+  IsTrue,
+  List,
+  [],
+  false,
+  ◌++◌,
+  filter,
+  length,
+  map,
+  nat_le,
+  vec_capacity,
+  Option,
+  None,
+  Some,
+  Result,
+  Ok,
+  Err,
+}
 use Rattle.channel.specs.Views.{View, is_late}
 use Rattle.outside.specs.Causes.{Rose}
 use Rattle.outside.specs.Net.{NetState}
@@ -10,7 +34,18 @@ use Rattle.outside.specs.declared.retired.Retired.{Retired}
 use Rattle.poll_loop.specs.Accounts.{Accounts, Books, IsMet, LastKnows, ServeCause, Stops, books}
 use Rattle.poll_loop.specs.Connections.{CameMore, Counted, IsOpenedBy, SamePolls, is_kept}
 use Rattle.poll_loop.specs.Lists.{EachIs}
-use Rattle.poll_loop.specs.NoIdle.{Answers, Asks, Case, IsFresh, Serving, checked_after, checked_by, kept, views, who}
+use Rattle.poll_loop.specs.NoIdle.{
+  Answers,
+  Asks,
+  Case,
+  IsFresh,
+  Serving,
+  checked_after,
+  checked_by,
+  kept,
+  views,
+  who,
+}
 use Rattle.poll_loop.specs.Seat.{Eyes, Labours, SeatRests}
 use Rattle.poll_loop.specs.Settings.{AreUsable, is_below}
 use Rattle.poll_loop.specs.declared.seat.Seat.{Seat}
@@ -33,12 +68,15 @@ serving s = record {
   fallen = s.connections.fallen.items;
 }
 
--- Between two turns each connection rests on what the settings ask, and no more are open than may be.
-pub record Stands {N A P L M B R S : Type 0} (e : Eyes L B) (run_faults : R → ℕ) (s : Server N A P L M B R S) : Type 0 where
+-- Between two turns each connection rests on what the settings ask, and no more are open than may
+-- be.
+pub record Stands {N A P L M B R S : Type 0} (e : Eyes L B) (run_faults : R → ℕ)
+    (s : Server N A P L M B R S) : Type 0 where
   pub usable : AreUsable s.settings.now
   pub rest : EachIs (SeatRests e s.settings.now.window) s.connections.seats.items
   pub by : EachIs (IsOpenedBy s.settings.now s.app.now) s.connections.seats.items
-  pub room : length s.connections.fallen.items + length s.connections.seats.items ≤ vec_capacity s.connections.fallen
+  pub room : length s.connections.fallen.items + length s.connections.seats.items ≤ vec_capacity
+      s.connections.fallen
   pub broke : All (λ run. 0 < run_faults run) s.connections.fallen.items
   pub recv : length s.rooms.recv.items ≡ s.settings.now.window.recv_bytes
   pub within : length s.connections.seats.items ≤ s.settings.now.connection_limit
@@ -80,10 +118,13 @@ StepEnds None limit before old new = (new.net.stopped ≡ false) × LastKnows ne
 StepEnds (Some why.Stopped) limit before old new = Stops old.net new.net
 StepEnds (Some why.LimitMet) limit before old new =
     IsMet limit before old.net new.net × (new.net.stopped ≡ false) × (new.who ≡ [])
-StepEnds (Some (why.Failed fault)) limit before old new = IsTrue new.net.stopped → IsTrue old.net.stopped
+StepEnds (Some (why.Failed fault)) limit before old new = IsTrue new.net.stopped →
+    IsTrue old.net.stopped
 
--- What is told of a turn, whether or not serving ends with it; before and now are how many were accepted.
-pub record Steps {L P : Type 0} (result : Option Why) (Holds : NetState L P → Retired L → Type 0) (plan : L → P)
+-- What is told of a turn, whether or not serving ends with it; before and now are how many were
+-- accepted.
+pub record Steps {L P : Type 0} (result : Option Why) (Holds : NetState L P → Retired L → Type 0)
+    (plan : L → P)
     (limit : Option ℕ) (before now : ℕ) (old new : Books L P) : Type 0 where
   pub accounts : Accounts Holds plan old new
   pub knows : KnowsStill old new
@@ -91,15 +132,18 @@ pub record Steps {L P : Type 0} (result : Option Why) (Holds : NetState L P → 
   pub came_more : CameMore limit before now (length old.net.given) (length new.net.given)
 
 -- Each connection that the poll was asked for had its part, and who is over has no seat any more.
-pub record WorksOff {N A P L M B R S : Type 0} (e : Eyes L B) (now : ℕ) (wants : List Want) (old new : Server N A P L M B R S) : Type 0 where
+pub record WorksOff {N A P L M B R S : Type 0} (e : Eyes L B) (now : ℕ) (wants : List Want)
+    (old new : Server N A P L M B R S) : Type 0 where
   pub news : List (Seat L A S B R)
-  pub labours : Labours (nat_le (checked_by now old.checked + old.settings.now.cleanup_interval) now) e now
+  pub labours : Labours (nat_le (checked_by now old.checked + old.settings.now.cleanup_interval)
+      now) e now
       old.settings.now.window wants old.connections.seats.items news
   pub kept : new.connections.seats.items ≡ filter is_kept news
   pub checked : new.checked ≡ checked_after now old.checked old.settings.now.cleanup_interval
 
 -- What a turn does behind its poll, but for what its poll tells.
-pub record Carries {L P A R : Type 0} (e : Eyes L P) (wants : List Want) (turn : Turn) (before now : Serving L A R) (old new : NetState L P) : Type 0 where
+pub record Carries {L P A R : Type 0} (e : Eyes L P) (wants : List Want) (turn : Turn)
+    (before now : Serving L A R) (old new : NetState L P) : Type 0 where
   pub cases : List Case
   pub were : map (λ c. c.old) cases ≡ views e before
   pub asked : map (λ c. c.ready) cases ≡ wants
@@ -111,7 +155,8 @@ pub record Carries {L P A R : Type 0} (e : Eyes L P) (wants : List Want) (turn :
   pub given_since : new.given ≡ old.given ++ since
   pub few : length came ≤ length since
   pub answers : IsTrue turn.come → Answers old new
-  -- where somebody came, the net was asked until it put off, unless so many came as there is room for or are to
+  -- where somebody came, the net was asked until it put off, unless so many came as there is room
+  -- for or are to
   -- be served
   pub all : IsTrue turn.come → Rose old.put_off new.put_off ⊎
       ((before.settings.connection_limit ≤ length before.open' + length since) ⊎

@@ -7,7 +7,8 @@ use Rattle.proxy_trust.specs.Rules.{IsSound}
 use Rattle.request_stream.specs.Reading.{ArePositive}
 use Rattle.poll_loop.specs.declared.settings.Settings.{Settings}
 
--- a request can be read by the limits, a byte can be read and written, and the rules on proxies are sound
+-- a request can be read by the limits, a byte can be read and written, and the rules on proxies are
+-- sound
 pub record AreUsable (settings : Settings) : Type 0 where
   pub positive : ArePositive settings.limits
   pub window : IsUsable settings.window

@@ -1,8 +1,40 @@
 //! From an accept to a seat.
-ghost use Rattle.std.specs.Prelude.{◌≡◌, ◌≤◌, ◌<◌, ◌+◌, ◌&&◌, ◌-◌, ◌^◌, false, IsTrue, IsSome, IfNone, IfErr, OnOk, OnErr, length, nat_lt, vec_capacity};
+ghost use Rattle.std.specs.Prelude.{
+  ◌≡◌,
+  ◌≤◌,
+  ◌<◌,
+  ◌+◌,
+  ◌&&◌,
+  ◌-◌,
+  ◌^◌,
+  false,
+  IsTrue,
+  IsSome,
+  IfNone,
+  IfErr,
+  OnOk,
+  OnErr,
+  length,
+  nat_lt,
+  vec_capacity,
+};
 ghost use Rattle.outside.specs.Link.{opened};
 ghost use Rattle.poll_loop.specs.Accounts.{Accounts, books};
-ghost use Rattle.poll_loop.specs.Connections.{AcceptsAll, CameAll, CameBy, CameCause, CameMore, CameUntil, Counted, FaultCause, SamePolls, SeatsOne, Takes, holds_on, seated};
+ghost use Rattle.poll_loop.specs.Connections.{
+  AcceptsAll,
+  CameAll,
+  CameBy,
+  CameCause,
+  CameMore,
+  CameUntil,
+  Counted,
+  FaultCause,
+  SamePolls,
+  SeatsOne,
+  Takes,
+  holds_on,
+  seated,
+};
 ghost use Rattle.poll_loop.specs.Entries.{IsWithin};
 ghost use Rattle.poll_loop.specs.NoIdle.{Answers};
 ghost use Rattle.poll_loop.specs.Seat.{eyes_of};
@@ -59,7 +91,8 @@ fn seat_link<'a, L: Link + Drop, A: App<P::Spill>, P: Spills>(
         vec_capacity connections.old.fallen }
     requires fresh { IsTrue L.tells → L.state link ≡ opened opening.now.moment }
     ensures seated { OnOk result (SeatsOne (eyes_of L.Link) opening.now.settings.now
-        opening.now.app.now opening.now.moment link peer connections.old.seats.items connections.new.seats.items) }
+        opening.now.app.now opening.now.moment link peer connections.old.seats.items
+        connections.new.seats.items) }
     ensures back { IfErr result (λ back. (back.0 ≡ link) × (back.1 ≡ peer)) }
     ensures kept { OnErr result (connections.new.seats.items ≡ connections.old.seats.items) }
     ensures fallen { connections.new.fallen.items ≡ connections.old.fallen.items }
@@ -121,7 +154,8 @@ fn accept_one<'a, N: Net, A: App<P::Spill>, P: Spills>(
         connections.old.retired
         (length connections.old.seats.items) }
     ensures takes { Takes (eyes_of N.Link.Link) opening.now.settings.now
-        opening.now.app.now opening.now.moment connections.old.seats.items connections.new.seats.items }
+        opening.now.app.now opening.now.moment connections.old.seats.items
+        connections.new.seats.items }
     ensures few { length connections.new.seats.items ≤ length connections.old.seats.items + 1 }
     ensures accounts { IsTrue N.tells → Accounts
         (holds_on N.Link.Link P.Spill.Spill A.App A.Run.AppRun opening.now.settings.now
@@ -183,7 +217,8 @@ fn accept_all<'a, N: Net, A: App<P::Spill>, P: Spills>(
         connections.old.retired
         (length connections.old.seats.items) }
     ensures takes { Takes (eyes_of N.Link.Link) opening.now.settings.now
-        opening.now.app.now opening.now.moment connections.old.seats.items connections.new.seats.items }
+        opening.now.app.now opening.now.moment connections.old.seats.items
+        connections.new.seats.items }
     ensures within { length connections.new.seats.items ≤ opening.now.settings.now.connection_limit }
     ensures accounts { IsTrue N.tells → Accounts
         (holds_on N.Link.Link P.Spill.Spill A.App A.Run.AppRun opening.now.settings.now
@@ -247,8 +282,10 @@ pub(crate) fn accept_if<'a, N: Net, A: App<P::Spill>, P: Spills>(
         connections.old.retired
         (length connections.old.seats.items) }
     ensures takes { Takes (eyes_of N.Link.Link) opening.now.settings.now
-        opening.now.app.now opening.now.moment connections.old.seats.items connections.new.seats.items }
-    ensures within { length connections.old.seats.items ≤ opening.now.settings.now.connection_limit →
+        opening.now.app.now opening.now.moment connections.old.seats.items
+        connections.new.seats.items }
+    ensures within { length connections.old.seats.items ≤ opening.now.settings.now.connection_limit
+        →
         length connections.new.seats.items ≤ opening.now.settings.now.connection_limit }
     ensures accounts { IsTrue N.tells → Accounts
         (holds_on N.Link.Link P.Spill.Spill A.App A.Run.AppRun opening.now.settings.now

@@ -1,7 +1,15 @@
 //! The part of a turn that is each connection's own.
 ghost use Rattle.std.specs.Prelude.{◌≡◌, length};
 ghost use Rattle.poll_loop.specs.Lists.{Both, EachIs, Paired, UpTo};
-ghost use Rattle.poll_loop.specs.Seat.{Labours, SeatAsks, SeatChecks, SeatOut, SeatRests, SeatTurns, eyes_of};
+ghost use Rattle.poll_loop.specs.Seat.{
+  Labours,
+  SeatAsks,
+  SeatChecks,
+  SeatOut,
+  SeatRests,
+  SeatTurns,
+  eyes_of,
+};
 
 use crate::seat::Seat;
 use channel::Window;
@@ -24,7 +32,8 @@ pub(crate) struct Rooms {
     ghost send_len: { length send.items ≡ 65536 },
 }
 
-// The part of a turn of each connection that the poll was asked for, in the order in which they came.
+// The part of a turn of each connection that the poll was asked for, in the order in which they
+// came.
 fn attend_all<'a, L: Link + Drop, A: App<S>, S: Spill + Send + Drop, P: Spills<Spill = S>>(
     seats: &mut [Seat<'a, L, A, S>],
     wants: &[Want],
@@ -71,7 +80,8 @@ fn check_all<'a, L: Link + Drop, A: App<S>, S: Spill + Send + Drop>(
     }
 }
 
-// Reads, makes steps and sends where something is ready or due, and makes the idle check where that is due.
+// Reads, makes steps and sends where something is ready or due, and makes the idle check where that
+// is due.
 fn labour<'a, L: Link + Drop, A: App<S>, S: Spill + Send + Drop, P: Spills<Spill = S>>(
     seats: &mut [Seat<'a, L, A, S>],
     wants: &[Want],

@@ -62,7 +62,8 @@ fn hear<'a, L: Link + Drop, A: App<S>, S: Spill + Send + Drop, P: Spills<Spill =
 ) -> Option<End>
     requires room { length room.old ≡ lane.old.fixed.window.recv_bytes }
     requires up { IsUp lane.old.shown }
-    requires asks { asked_of ready ≡ want_of lane.old.fixed.window (viewed (eyes_of L.Link) lane.old) }
+    requires asks { asked_of ready ≡ want_of lane.old.fixed.window
+        (viewed (eyes_of L.Link) lane.old) }
     ensures goes { Goes (eyes_of L.Link) now lane.old lane.new }
     ensures hears { OverOr now result lane.new.shown (Hears L.tells lane.old.fixed.window ready
         (viewed (eyes_of L.Link) lane.old) (viewed (eyes_of L.Link) lane.new)) }
@@ -136,7 +137,8 @@ fn converse<'a, L: Link + Drop, A: App<S>, S: Spill + Send + Drop, P: Spills<Spi
     requires recv_room { length recv_room.old ≡ lane.old.fixed.window.recv_bytes }
     requires send_room { length send_room.old ≡ 65536 }
     requires up { IsUp lane.old.shown }
-    requires asks { asked_of ready ≡ want_of lane.old.fixed.window (viewed (eyes_of L.Link) lane.old) }
+    requires asks { asked_of ready ≡ want_of lane.old.fixed.window
+        (viewed (eyes_of L.Link) lane.old) }
     requires called { IsCalled lane.old.fixed.window ready lane.old.shown }
     ensures goes { Goes (eyes_of L.Link) now lane.old lane.new }
     ensures attends { OverOrMarked now lane.old.fixed.window result (viewed

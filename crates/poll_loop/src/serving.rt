@@ -17,7 +17,8 @@ use wsgi::App;
 
 impl<'a, N: Net, A: App<P::Spill>, P: Spills> Server<'a, N, A, P> {
     /// Makes one turn: polls, accepts, reads what is ready, makes steps and sends at once what they
-    /// wrote, makes the idle check where it is due, and retires what is over. Where it doesn't answer
+    /// wrote, makes the idle check where it is due, and retires what is over. Where it doesn't
+    /// answer
     /// `On`, everything that was open is retired.
     pub fn turn(&mut self, net: &mut N, spills: &mut P) -> Result<Going, ServeFault>
         requires stands { Stands (eyes_of N.Link.Link) A.Run.faults self.old }
@@ -30,22 +31,27 @@ impl<'a, N: Net, A: App<P::Spill>, P: Spills> Server<'a, N, A, P> {
             (holds_on N.Link.Link P.Spill.Spill A.App A.Run.AppRun (serving self.old).settings
             (serving self.old).app)
             N.Link.plan
-            (booked (eyes_of N.Link.Link) (N.state net.old) (P.faults spills.old) (serving self.old))
-            (booked (eyes_of N.Link.Link) (N.state net.new) (P.faults spills.new) (serving self.new)) }
+            (booked (eyes_of N.Link.Link) (N.state net.old) (P.faults spills.old)
+            (serving self.old))
+            (booked (eyes_of N.Link.Link) (N.state net.new) (P.faults spills.new)
+            (serving self.new)) }
         ensures knows { result ≡ Ok going.On → IsTrue N.tells → LastKnows (N.state net.new) }
         ensures still { IsTrue N.tells → LastKnows (N.state net.old) → LastKnows (N.state net.new) }
         ensures came_more { IsTrue N.tells → CameMore (serving self.old).settings.serve_limit
             (serving self.old).accepted (serving self.new).accepted (length
             (N.state net.old).given) (length (N.state net.new).given) }
-        ensures unstopped { result ≡ Ok going.On → IsTrue N.tells → (N.state net.new).stopped ≡ false }
+        ensures unstopped { result ≡ Ok going.On → IsTrue N.tells →
+            (N.state net.new).stopped ≡ false }
         ensures served { result ≢ Ok going.On → IsTrue N.tells → Served result
             (holds_on N.Link.Link P.Spill.Spill A.App A.Run.AppRun (serving self.old).settings
             (serving self.old).app)
             (holds_down N.Link.Link P.Spill.Spill A.App A.Run.AppRun (serving self.old).settings
             (serving self.old).app)
             N.Link.plan
-            (booked (eyes_of N.Link.Link) (N.state net.old) (P.faults spills.old) (serving self.old))
-            (booked (eyes_of N.Link.Link) (N.state net.new) (P.faults spills.new) (serving self.new)) }
+            (booked (eyes_of N.Link.Link) (N.state net.old) (P.faults spills.old)
+            (serving self.old))
+            (booked (eyes_of N.Link.Link) (N.state net.new) (P.faults spills.new)
+            (serving self.new)) }
         ensures shut { result ≢ Ok going.On → (serving self.new).open' ≡ [] }
         ensures polls { IsTrue N.tells → ((N.state net.new).polls ≡ (N.state net.old).polls) ⊎
             ((N.state net.new).polls ≡ raised (N.state net.old).polls) }
@@ -88,8 +94,10 @@ impl<'a, N: Net, A: App<P::Spill>, P: Spills> Server<'a, N, A, P> {
             (holds_down N.Link.Link P.Spill.Spill A.App A.Run.AppRun (serving self.old).settings
             (serving self.old).app)
             N.Link.plan
-            (booked (eyes_of N.Link.Link) (N.state net.old) (P.faults spills.old) (serving self.old))
-            (booked (eyes_of N.Link.Link) (N.state net.new) (P.faults spills.new) (serving self.new)) }
+            (booked (eyes_of N.Link.Link) (N.state net.old) (P.faults spills.old)
+            (serving self.old))
+            (booked (eyes_of N.Link.Link) (N.state net.new) (P.faults spills.new)
+            (serving self.new)) }
         ensures came_more { IsTrue N.tells → CameMore (serving self.old).settings.serve_limit
             (serving self.old).accepted (serving self.new).accepted (length
             (N.state net.old).given) (length (N.state net.new).given) }

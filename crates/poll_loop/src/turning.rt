@@ -1,12 +1,42 @@
 //! One turn.
-ghost use Rattle.std.specs.Prelude.{◌≡◌, ◌≤◌, ◌+◌, ◌⊎◌, false, IsTrue, OnOk, None, length, nat_le, take};
+ghost use Rattle.std.specs.Prelude.{
+  ◌≡◌,
+  ◌≤◌,
+  ◌+◌,
+  ◌⊎◌,
+  false,
+  IsTrue,
+  OnOk,
+  None,
+  length,
+  nat_le,
+  take,
+};
 ghost use Rattle.outside.specs.Causes.{raised};
 ghost use Rattle.poll_loop.specs.Accounts.{Accounts, LastKnows};
-ghost use Rattle.poll_loop.specs.Connections.{Gathers, IsAsked, IsNow, OnlyRetires, SamePolls, holds_on, works};
+ghost use Rattle.poll_loop.specs.Connections.{
+  Gathers,
+  IsAsked,
+  IsNow,
+  OnlyRetires,
+  SamePolls,
+  holds_on,
+  works,
+};
 ghost use Rattle.poll_loop.specs.Lists.{Paired};
 ghost use Rattle.poll_loop.specs.NoIdle.{Hosts, NoIdle, checked_by, is_accepting};
 ghost use Rattle.poll_loop.specs.Seat.{SeatAsks, eyes_of};
-ghost use Rattle.poll_loop.specs.Server.{Carries, IsSameServer, Stands, StepCause, Steps, WorksOff, answer_of, booked, serving};
+ghost use Rattle.poll_loop.specs.Server.{
+  Carries,
+  IsSameServer,
+  Stands,
+  StepCause,
+  Steps,
+  WorksOff,
+  answer_of,
+  booked,
+  serving,
+};
 
 use crate::accepting::{Opening, accept_if, accepts, below};
 use crate::attending::{Round, labour_all};
@@ -18,7 +48,8 @@ use outside::{Link, Net, Spill, Spills, Turn, Want};
 use std::alloc::AllocError;
 use wsgi::App;
 
-// It tells a poll that work is waiting which needs no bytes. It asks nothing of a link, so its key is nobody's.
+// It tells a poll that work is waiting which needs no bytes. It asks nothing of a link, so its key
+// is nobody's.
 const NUDGE: Want = Want {
     key: 0,
     read: false,
@@ -96,7 +127,8 @@ impl Why {
 }
 
 impl<'a, N: Net, A: App<P::Spill>, P: Spills> Server<'a, N, A, P> {
-    // Reads, makes steps, sends, makes the idle check where it is due, and retires what is over. The poll
+    // Reads, makes steps, sends, makes the idle check where it is due, and retires what is over.
+    // The poll
     // was asked for the first so many connections.
     fn work(&mut self, asked: usize, now: u64, net: &mut N, spills: &mut P)
         requires stands { Stands (eyes_of N.Link.Link) A.Run.faults self.old }
@@ -112,8 +144,10 @@ impl<'a, N: Net, A: App<P::Spill>, P: Spills> Server<'a, N, A, P> {
             (holds_on N.Link.Link P.Spill.Spill A.App A.Run.AppRun self.old.settings.now
             self.old.app.now)
             N.Link.plan
-            (booked (eyes_of N.Link.Link) (N.state net.old) (P.faults spills.old) (serving self.old))
-            (booked (eyes_of N.Link.Link) (N.state net.new) (P.faults spills.new) (serving self.new)) }
+            (booked (eyes_of N.Link.Link) (N.state net.old) (P.faults spills.old)
+            (serving self.old))
+            (booked (eyes_of N.Link.Link) (N.state net.new) (P.faults spills.new)
+            (serving self.new)) }
         ensures net { IsTrue N.tells → OnlyRetires (N.state net.old) (N.state net.new) }
         ensures accepted { self.new.connections.accepted ≡ self.old.connections.accepted }
         ensures polls { N.poll_faults net.new ≡ N.poll_faults net.old }
@@ -166,9 +200,12 @@ impl<'a, N: Net, A: App<P::Spill>, P: Spills> Server<'a, N, A, P> {
         ensures steps { IsTrue N.tells → Steps result
             (holds_on N.Link.Link P.Spill.Spill A.App A.Run.AppRun self.old.settings.now
             self.old.app.now)
-            N.Link.plan self.old.settings.now.serve_limit self.old.connections.accepted self.new.connections.accepted
-            (booked (eyes_of N.Link.Link) (N.state net.old) (P.faults spills.old) (serving self.old))
-            (booked (eyes_of N.Link.Link) (N.state net.new) (P.faults spills.new) (serving self.new)) }
+            N.Link.plan self.old.settings.now.serve_limit self.old.connections.accepted
+            self.new.connections.accepted
+            (booked (eyes_of N.Link.Link) (N.state net.old) (P.faults spills.old)
+            (serving self.old))
+            (booked (eyes_of N.Link.Link) (N.state net.new) (P.faults spills.new)
+            (serving self.new)) }
         ensures same_polls { IsTrue N.tells → SamePolls (N.state net.old) (N.state net.new) }
         ensures cause { StepCause result (N.poll_faults net.old) (N.poll_faults net.new) }
         ensures same { IsSameServer self.old self.new }
@@ -208,9 +245,12 @@ impl<'a, N: Net, A: App<P::Spill>, P: Spills> Server<'a, N, A, P> {
         ensures steps { IsTrue N.tells → Steps result
             (holds_on N.Link.Link P.Spill.Spill A.App A.Run.AppRun self.old.settings.now
             self.old.app.now)
-            N.Link.plan self.old.settings.now.serve_limit self.old.connections.accepted self.new.connections.accepted
-            (booked (eyes_of N.Link.Link) (N.state net.old) (P.faults spills.old) (serving self.old))
-            (booked (eyes_of N.Link.Link) (N.state net.new) (P.faults spills.new) (serving self.new)) }
+            N.Link.plan self.old.settings.now.serve_limit self.old.connections.accepted
+            self.new.connections.accepted
+            (booked (eyes_of N.Link.Link) (N.state net.old) (P.faults spills.old)
+            (serving self.old))
+            (booked (eyes_of N.Link.Link) (N.state net.new) (P.faults spills.new)
+            (serving self.new)) }
         ensures polls { IsTrue N.tells → ((N.state net.new).polls ≡ (N.state net.old).polls) ⊎
             ((N.state net.new).polls ≡ raised (N.state net.old).polls) }
         ensures cause { StepCause result (N.poll_faults net.old) (N.poll_faults net.new) }

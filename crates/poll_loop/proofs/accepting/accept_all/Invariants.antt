@@ -9,21 +9,26 @@ use Rattle.poll_loop.proofs.accepting.accept_all.Given as goal
 
 abbrev pub invariant-loop : goal.invariant-loop
 invariant-loop g l =
-    SoFar g.N.Net.tells (EntryHolds (service_by (telling g.N.Link.Link.tells g.P.Spill.Spill.tells g.A.App.tells) g.A.App.script l.fn.opening.settings.now l.fn.opening.app.now)
+    SoFar g.N.Net.tells (EntryHolds (service_by (telling g.N.Link.Link.tells g.P.Spill.Spill.tells
+    g.A.App.tells) g.A.App.script l.fn.opening.settings.now l.fn.opening.app.now)
     (going_on (HasBroken g.A.Run.AppRun.faults)) g.N.Link.Link.state g.N.Link.Link.faults)
-    (eyes_of g.N.Link.Link) l.fn.opening.settings.now l.fn.opening.app.now l.fn.opening.moment l.counter
+    (eyes_of g.N.Link.Link) l.fn.opening.settings.now l.fn.opening.app.now l.fn.opening.moment
+    l.counter
     l.fn.connections.seats.items l.connections.seats.items
-    (books (g.N.Net.state l.fn.net) (g.P.Spills.faults l.fn.spills) (length l.fn.connections.fallen.items)
+    (books (g.N.Net.state l.fn.net) (g.P.Spills.faults l.fn.spills)
+    (length l.fn.connections.fallen.items)
     (seated (eyes_of g.N.Link.Link) l.fn.connections.seats.items))
     (books (g.N.Net.state l.net) (g.P.Spills.faults l.spills) (length l.connections.fallen.items)
     (seated (eyes_of g.N.Link.Link) l.connections.seats.items))
     l.fn.connections.accepted l.connections.accepted
     × (length l.connections.seats.items ≤ l.fn.opening.settings.now.connection_limit)
-    × Counted l.fn.opening.settings.now.serve_limit l.connections.accepted l.connections.retired (length l.connections.seats.items)
+    × Counted l.fn.opening.settings.now.serve_limit l.connections.accepted l.connections.retired
+    (length l.connections.seats.items)
     × (g.N.Net.poll_faults l.net ≡ g.N.Net.poll_faults l.fn.net)
     × (g.N.Net.bind_faults l.net ≡ g.N.Net.bind_faults l.fn.net)
     × (g.N.Net.plan l.net ≡ g.N.Net.plan l.fn.net)
     × (g.N.Net.moment l.net ≡ g.N.Net.moment l.fn.net)
     × (g.P.Spills.faults l.spills ≡ g.P.Spills.faults l.fn.spills)
     × (l.connections.fallen.items ≡ l.fn.connections.fallen.items)
-    × (length l.connections.fallen.items + length l.connections.seats.items ≤ vec_capacity l.connections.fallen)
+    × (length l.connections.fallen.items + length l.connections.seats.items ≤ vec_capacity
+    l.connections.fallen)

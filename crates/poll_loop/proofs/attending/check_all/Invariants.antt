@@ -4,7 +4,8 @@ use Rattle.poll_loop.specs.Seat.{SeatChecks, eyes_of}
 use Rattle.poll_loop.proofs.attending.check_all.Given as goal
 
 -- each seat before this one was checked, and the room is as it was
-pub record CheckedTo {X : Type 0} (R : X → X → X → Type 0) (i : ℕ) (os ns : List X) (room room' : List ℕ) : Type 0 where
+pub record CheckedTo {X : Type 0} (R : X → X → X → Type 0) (i : ℕ) (os ns : List X)
+    (room room' : List ℕ) : Type 0 where
   pub checks : UpTo R i os os ns
   pub rooms : length room' ≡ length room
 

@@ -11,11 +11,14 @@ use Rattle.poll_loop.proofs.server.Server.serve.Goals as goal
 pub loop-init : goal.loop-init
 loop-init g c = record {
   goes = λ _. goes_none
-      (EntryHolds (service_by (telling g.N.Link.Link.tells g.P.Spill.Spill.tells g.A.App.tells) g.A.App.script c.args.self.now.settings.now c.args.self.now.app.now)
+      (EntryHolds (service_by (telling g.N.Link.Link.tells g.P.Spill.Spill.tells g.A.App.tells)
+      g.A.App.script c.args.self.now.settings.now c.args.self.now.app.now)
       (going_on (HasBroken g.A.Run.AppRun.faults)) g.N.Link.Link.state g.N.Link.Link.faults)
-      g.N.Link.Link.plan c.args.self.now.settings.now.serve_limit c.args.self.now.connections.accepted
+      g.N.Link.Link.plan c.args.self.now.settings.now.serve_limit
+      c.args.self.now.connections.accepted
       (booked (eyes_of g.N.Link.Link)
-      (g.N.Net.state c.args.net.now) (g.P.Spills.faults c.args.spills.now) (serving c.args.self.now));
+      (g.N.Net.state c.args.net.now) (g.P.Spills.faults c.args.spills.now)
+      (serving c.args.self.now));
   hosts = c.requires.hosts;
   stands = c.requires.stands;
   settings = refl;
@@ -39,17 +42,23 @@ loop-preserved g c =
     let on = c.in-Ok-On.is ∙ ap Ok c.in-Ok-On.field-0-is in
     record {
       goes = λ tells. serve_again
-          (telling g.N.Link.Link.tells g.P.Spill.Spill.tells g.A.App.tells) g.A.App.script g.A.Run.AppRun.faults
+          (telling g.N.Link.Link.tells g.P.Spill.Spill.tells g.A.App.tells) g.A.App.script
+          g.A.Run.AppRun.faults
           (eyes_of g.N.Link.Link)
-          c.args.self.now.settings.now c.loop.self.settings.now c.args.self.now.app.now c.loop.self.app.now
+          c.args.self.now.settings.now c.loop.self.settings.now c.args.self.now.app.now
+          c.loop.self.app.now
           c.args.self.now.connections.accepted c.loop.self.connections.accepted
           (booked (eyes_of g.N.Link.Link)
-          (g.N.Net.state c.args.net.now) (g.P.Spills.faults c.args.spills.now) (serving c.args.self.now))
+          (g.N.Net.state c.args.net.now) (g.P.Spills.faults c.args.spills.now)
+          (serving c.args.self.now))
           (booked (eyes_of g.N.Link.Link)
           (g.N.Net.state c.loop.net) (g.P.Spills.faults c.loop.spills) (serving c.loop.self))
           (booked (eyes_of g.N.Link.Link)
-          (g.N.Net.state c.turn.new.net) (g.P.Spills.faults c.turn.new.spills) (serving c.turn.new.self))
-          c.turn.new.self.connections.accepted held.settings held.app (held.goes tells) (made.goes_on on tells) (made.came_more tells) (made.unstopped on tells) (made.knows on tells);
+          (g.N.Net.state c.turn.new.net) (g.P.Spills.faults c.turn.new.spills)
+          (serving c.turn.new.self))
+          c.turn.new.self.connections.accepted held.settings held.app (held.goes tells)
+          (made.goes_on on tells) (made.came_more tells) (made.unstopped on tells)
+          (made.knows on tells);
       hosts = made.hosts on;
       stands = made.stands;
       settings = made.settings ∙ held.settings;
@@ -66,9 +75,11 @@ returns-in-Ok-Stopped-clause-served g c tells =
     let made = c.turn.ensures in
     let is = c.in-Ok-Stopped.is ∙ ap Ok c.in-Ok-Stopped.field-0-is in
     serve_ended
-    (telling g.N.Link.Link.tells g.P.Spill.Spill.tells g.A.App.tells) g.A.App.script g.A.Run.AppRun.faults
+    (telling g.N.Link.Link.tells g.P.Spill.Spill.tells g.A.App.tells) g.A.App.script
+    g.A.Run.AppRun.faults
     (eyes_of g.N.Link.Link)
-    c.args.self.now.settings.now c.loop.self.settings.now c.args.self.now.app.now c.loop.self.app.now
+    c.args.self.now.settings.now c.loop.self.settings.now c.args.self.now.app.now
+    c.loop.self.app.now
     c.args.self.now.connections.accepted c.loop.self.connections.accepted
     (booked (eyes_of g.N.Link.Link)
     (g.N.Net.state c.args.net.now) (g.P.Spills.faults c.args.spills.now) (serving c.args.self.now))
@@ -76,16 +87,19 @@ returns-in-Ok-Stopped-clause-served g c tells =
     (g.N.Net.state c.loop.net) (g.P.Spills.faults c.loop.spills) (serving c.loop.self))
     (booked (eyes_of g.N.Link.Link)
     (g.N.Net.state c.turn.new.net) (g.P.Spills.faults c.turn.new.spills) (serving c.turn.new.self))
-    c.turn.result (Ok going.Stopped) is held.settings held.app (held.goes tells) (made.served (λ on. absurd (cc (on, is))) tells) (made.still tells)
+    c.turn.result (Ok going.Stopped) is held.settings held.app (held.goes tells)
+    (made.served (λ on. absurd (cc (on, is))) tells) (made.still tells)
 
 pub returns-in-Ok-Stopped-clause-ends : goal.returns-in-Ok-Stopped-clause-ends
 returns-in-Ok-Stopped-clause-ends g c tells =
     let held = c.loop.invariant in
     let is = c.in-Ok-Stopped.is ∙ ap Ok c.in-Ok-Stopped.field-0-is in
     serve_ends
-    (telling g.N.Link.Link.tells g.P.Spill.Spill.tells g.A.App.tells) g.A.App.script g.A.Run.AppRun.faults
+    (telling g.N.Link.Link.tells g.P.Spill.Spill.tells g.A.App.tells) g.A.App.script
+    g.A.Run.AppRun.faults
     (eyes_of g.N.Link.Link)
-    c.args.self.now.settings.now c.loop.self.settings.now c.args.self.now.app.now c.loop.self.app.now
+    c.args.self.now.settings.now c.loop.self.settings.now c.args.self.now.app.now
+    c.loop.self.app.now
     c.args.self.now.connections.accepted c.loop.self.connections.accepted
     (booked (eyes_of g.N.Link.Link)
     (g.N.Net.state c.args.net.now) (g.P.Spills.faults c.args.spills.now) (serving c.args.self.now))
@@ -98,7 +112,8 @@ returns-in-Ok-Stopped-clause-ends g c tells =
 pub returns-in-Ok-Stopped-clause-cause : goal.returns-in-Ok-Stopped-clause-cause
 returns-in-Ok-Stopped-clause-cause g c =
     let is = c.in-Ok-Stopped.is ∙ ap Ok c.in-Ok-Stopped.field-0-is in
-    serve_cause c.turn.result (Ok going.Stopped) _ _ _ is c.loop.invariant.polls c.turn.ensures.cause
+    serve_cause c.turn.result (Ok going.Stopped) _ _ _ is c.loop.invariant.polls
+    c.turn.ensures.cause
 
 pub returns-in-Ok-LimitMet-clause-served : goal.returns-in-Ok-LimitMet-clause-served
 returns-in-Ok-LimitMet-clause-served g c tells =
@@ -106,9 +121,11 @@ returns-in-Ok-LimitMet-clause-served g c tells =
     let made = c.turn.ensures in
     let is = c.in-Ok-LimitMet.is ∙ ap Ok c.in-Ok-LimitMet.field-0-is in
     serve_ended
-    (telling g.N.Link.Link.tells g.P.Spill.Spill.tells g.A.App.tells) g.A.App.script g.A.Run.AppRun.faults
+    (telling g.N.Link.Link.tells g.P.Spill.Spill.tells g.A.App.tells) g.A.App.script
+    g.A.Run.AppRun.faults
     (eyes_of g.N.Link.Link)
-    c.args.self.now.settings.now c.loop.self.settings.now c.args.self.now.app.now c.loop.self.app.now
+    c.args.self.now.settings.now c.loop.self.settings.now c.args.self.now.app.now
+    c.loop.self.app.now
     c.args.self.now.connections.accepted c.loop.self.connections.accepted
     (booked (eyes_of g.N.Link.Link)
     (g.N.Net.state c.args.net.now) (g.P.Spills.faults c.args.spills.now) (serving c.args.self.now))
@@ -116,16 +133,19 @@ returns-in-Ok-LimitMet-clause-served g c tells =
     (g.N.Net.state c.loop.net) (g.P.Spills.faults c.loop.spills) (serving c.loop.self))
     (booked (eyes_of g.N.Link.Link)
     (g.N.Net.state c.turn.new.net) (g.P.Spills.faults c.turn.new.spills) (serving c.turn.new.self))
-    c.turn.result (Ok going.LimitMet) is held.settings held.app (held.goes tells) (made.served (λ on. absurd (cc (on, is))) tells) (made.still tells)
+    c.turn.result (Ok going.LimitMet) is held.settings held.app (held.goes tells)
+    (made.served (λ on. absurd (cc (on, is))) tells) (made.still tells)
 
 pub returns-in-Ok-LimitMet-clause-ends : goal.returns-in-Ok-LimitMet-clause-ends
 returns-in-Ok-LimitMet-clause-ends g c tells =
     let held = c.loop.invariant in
     let is = c.in-Ok-LimitMet.is ∙ ap Ok c.in-Ok-LimitMet.field-0-is in
     serve_ends
-    (telling g.N.Link.Link.tells g.P.Spill.Spill.tells g.A.App.tells) g.A.App.script g.A.Run.AppRun.faults
+    (telling g.N.Link.Link.tells g.P.Spill.Spill.tells g.A.App.tells) g.A.App.script
+    g.A.Run.AppRun.faults
     (eyes_of g.N.Link.Link)
-    c.args.self.now.settings.now c.loop.self.settings.now c.args.self.now.app.now c.loop.self.app.now
+    c.args.self.now.settings.now c.loop.self.settings.now c.args.self.now.app.now
+    c.loop.self.app.now
     c.args.self.now.connections.accepted c.loop.self.connections.accepted
     (booked (eyes_of g.N.Link.Link)
     (g.N.Net.state c.args.net.now) (g.P.Spills.faults c.args.spills.now) (serving c.args.self.now))
@@ -138,7 +158,8 @@ returns-in-Ok-LimitMet-clause-ends g c tells =
 pub returns-in-Ok-LimitMet-clause-cause : goal.returns-in-Ok-LimitMet-clause-cause
 returns-in-Ok-LimitMet-clause-cause g c =
     let is = c.in-Ok-LimitMet.is ∙ ap Ok c.in-Ok-LimitMet.field-0-is in
-    serve_cause c.turn.result (Ok going.LimitMet) _ _ _ is c.loop.invariant.polls c.turn.ensures.cause
+    serve_cause c.turn.result (Ok going.LimitMet) _ _ _ is c.loop.invariant.polls
+    c.turn.ensures.cause
 
 pub returns-in-Err-clause-served : goal.returns-in-Err-clause-served
 returns-in-Err-clause-served g c tells =
@@ -146,9 +167,11 @@ returns-in-Err-clause-served g c tells =
     let made = c.turn.ensures in
     let is = c.in-Err.is in
     serve_ended
-    (telling g.N.Link.Link.tells g.P.Spill.Spill.tells g.A.App.tells) g.A.App.script g.A.Run.AppRun.faults
+    (telling g.N.Link.Link.tells g.P.Spill.Spill.tells g.A.App.tells) g.A.App.script
+    g.A.Run.AppRun.faults
     (eyes_of g.N.Link.Link)
-    c.args.self.now.settings.now c.loop.self.settings.now c.args.self.now.app.now c.loop.self.app.now
+    c.args.self.now.settings.now c.loop.self.settings.now c.args.self.now.app.now
+    c.loop.self.app.now
     c.args.self.now.connections.accepted c.loop.self.connections.accepted
     (booked (eyes_of g.N.Link.Link)
     (g.N.Net.state c.args.net.now) (g.P.Spills.faults c.args.spills.now) (serving c.args.self.now))
@@ -156,16 +179,19 @@ returns-in-Err-clause-served g c tells =
     (g.N.Net.state c.loop.net) (g.P.Spills.faults c.loop.spills) (serving c.loop.self))
     (booked (eyes_of g.N.Link.Link)
     (g.N.Net.state c.turn.new.net) (g.P.Spills.faults c.turn.new.spills) (serving c.turn.new.self))
-    c.turn.result (Err c.in-Err.fault) is held.settings held.app (held.goes tells) (made.served (λ on. absurd (cc (on, is))) tells) (made.still tells)
+    c.turn.result (Err c.in-Err.fault) is held.settings held.app (held.goes tells)
+    (made.served (λ on. absurd (cc (on, is))) tells) (made.still tells)
 
 pub returns-in-Err-clause-ends : goal.returns-in-Err-clause-ends
 returns-in-Err-clause-ends g c tells =
     let held = c.loop.invariant in
     let is = c.in-Err.is in
     serve_ends
-    (telling g.N.Link.Link.tells g.P.Spill.Spill.tells g.A.App.tells) g.A.App.script g.A.Run.AppRun.faults
+    (telling g.N.Link.Link.tells g.P.Spill.Spill.tells g.A.App.tells) g.A.App.script
+    g.A.Run.AppRun.faults
     (eyes_of g.N.Link.Link)
-    c.args.self.now.settings.now c.loop.self.settings.now c.args.self.now.app.now c.loop.self.app.now
+    c.args.self.now.settings.now c.loop.self.settings.now c.args.self.now.app.now
+    c.loop.self.app.now
     c.args.self.now.connections.accepted c.loop.self.connections.accepted
     (booked (eyes_of g.N.Link.Link)
     (g.N.Net.state c.args.net.now) (g.P.Spills.faults c.args.spills.now) (serving c.args.self.now))
@@ -173,9 +199,11 @@ returns-in-Err-clause-ends g c tells =
     (g.N.Net.state c.loop.net) (g.P.Spills.faults c.loop.spills) (serving c.loop.self))
     (booked (eyes_of g.N.Link.Link)
     (g.N.Net.state c.turn.new.net) (g.P.Spills.faults c.turn.new.spills) (serving c.turn.new.self))
-    c.turn.result (Err c.in-Err.fault) is held.settings (held.goes tells) (c.turn.ensures.ends tells)
+    c.turn.result (Err c.in-Err.fault) is held.settings (held.goes tells)
+    (c.turn.ensures.ends tells)
 
 pub returns-in-Err-clause-cause : goal.returns-in-Err-clause-cause
 returns-in-Err-clause-cause g c =
     let is = c.in-Err.is in
-    serve_cause c.turn.result (Err c.in-Err.fault) _ _ _ is c.loop.invariant.polls c.turn.ensures.cause
+    serve_cause c.turn.result (Err c.in-Err.fault) _ _ _ is c.loop.invariant.polls
+    c.turn.ensures.cause

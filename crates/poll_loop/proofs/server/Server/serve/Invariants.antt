@@ -11,9 +11,11 @@ use Rattle.poll_loop.proofs.server.Server.serve.Given as goal
 abbrev pub invariant-loop : goal.invariant-loop
 invariant-loop g l = record {
   goes : IsTrue g.N.Net.tells → GoesOn
-      (EntryHolds (service_by (telling g.N.Link.Link.tells g.P.Spill.Spill.tells g.A.App.tells) g.A.App.script l.fn.self.settings.now l.fn.self.app.now)
+      (EntryHolds (service_by (telling g.N.Link.Link.tells g.P.Spill.Spill.tells g.A.App.tells)
+      g.A.App.script l.fn.self.settings.now l.fn.self.app.now)
       (going_on (HasBroken g.A.Run.AppRun.faults)) g.N.Link.Link.state g.N.Link.Link.faults)
-      g.N.Link.Link.plan l.fn.self.settings.now.serve_limit l.fn.self.connections.accepted l.self.connections.accepted
+      g.N.Link.Link.plan l.fn.self.settings.now.serve_limit l.fn.self.connections.accepted
+      l.self.connections.accepted
       (booked (eyes_of g.N.Link.Link)
       (g.N.Net.state l.fn.net) (g.P.Spills.faults l.fn.spills) (serving l.fn.self))
       (booked (eyes_of g.N.Link.Link)
