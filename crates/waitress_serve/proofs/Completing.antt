@@ -15,8 +15,10 @@ use Rattle.waitress_serve.specs.Reports.{Unwritten, Written}
 use Rattle.waitress_serve.specs.Status.{Reading, is_unbuilt, serves}
 
 -- a usage fault serves nobody
-pub served_is_sound : (asked : Reading) (fault : UsageFault) → asked ≡ Err fault → IsTrue (serves asked) → ⊥
-served_is_sound asked fault is serving = let none : IsTrue (serves (Err fault)) = subst (λ a. IsTrue (serves a)) is serving in cc
+pub served_is_sound : (asked : Reading) (fault : UsageFault) → asked ≡ Err fault →
+    IsTrue (serves asked) → ⊥
+served_is_sound asked fault is serving = let none : IsTrue (serves (Err fault)) =
+    subst (λ a. IsTrue (serves a)) is serving in cc
 
 -- what is served is built
 pub served_is_built : (asked : Reading) → IsTrue (serves asked) → IsTrue (is_unbuilt asked) → ⊥
@@ -28,14 +30,21 @@ served_is_built (Ok (command.Rehearse connections)) serving unbuilt = cc
 served_is_built (Ok command.Help) serving unbuilt = cc
 served_is_built (Err fault) serving unbuilt = cc
 
-module _ {L : Type 0} (state : L → LinkState) (faults : L → ℕ) (owed : Peer → Input → Owed) (old new : List (Retired L)) where
-  pub completes_done : Added (IsAnswered state faults owed) old new → Completes state faults owed 0 old new
+module _ {L : Type 0} (state : L → LinkState) (faults : L → ℕ) (owed : Peer → Input → Owed)
+    (old new : List (Retired L)) where
+  pub completes_done : Added (IsAnswered state faults owed) old new →
+      Completes state faults owed 0 old new
   completes_done answered = record { status_is = inl refl; answered = λ _. answered }
 
   -- want of memory is reported
-  pub completes_no_memory : (status before now : ℕ) → Written 5 status before now ⊎ Unwritten status before now → IsStill before now → Completes state faults owed status old new
+  pub completes_no_memory : (status before now : ℕ) → Written 5 status before now ⊎ Unwritten status
+      before now → IsStill before now → Completes state faults owed status old new
   completes_no_memory status before now reported still =
       elim reported [
-        | inl w ↦ let five = w.status_is in record { status_is = inr five; answered = λ none. absurd (omega (arith, none, five)) }
+        | inl w ↦ let five = w.status_is in record {
+          status_is = inr five;
+          answered = λ none.
+              absurd (omega (arith, none, five));
+        }
         | inr w ↦ absurd (still w.rose)
       ]

@@ -1,5 +1,31 @@
 -- What a command leaves of the net, once it has ended.
-use Rattle.std.proofs.Common.{◌≡◌, ◌≤◌, ◌+◌, ◌⊎◌, inl, inr, ℕ, zero, suc, Bool, true, false, IsTrue, List, [], ◌++◌, length, refl, ap, sym, subst, ◌∙◌, arith, append-nil, length-append}
+use Rattle.std.proofs.Common.{
+  ◌≡◌,
+  ◌≤◌,
+  ◌+◌,
+  ◌⊎◌,
+  inl,
+  inr,
+  ℕ,
+  zero,
+  suc,
+  Bool,
+  true,
+  false,
+  IsTrue,
+  List,
+  [],
+  ◌++◌,
+  length,
+  refl,
+  ap,
+  sym,
+  subst,
+  ◌∙◌,
+  arith,
+  append-nil,
+  length-append,
+}
 use Rattle.std.specs.Prelude.{Option, None, Some, Result, Ok, Err, ◌&&◌}
 use Rattle.std.proofs.lemmas.List.{length-map}
 use Rattle.std.proofs.lemmas.List.Sorted.{IsPermutation-refl, length_permutation}
@@ -12,7 +38,17 @@ use Rattle.outside.specs.Net.{NetState}
 use Rattle.outside.specs.declared.retired.Retired.{Retired}
 use Rattle.outside.specs.declared.types.Listen.{Listen}
 use Rattle.outside.specs.declared.types.Peer.{Peer}
-use Rattle.poll_loop.specs.Accounts.{IsMet, LastKnows, NobodyShut, ServeCause, ServeEnds, Served, Stops, books, retired_of}
+use Rattle.poll_loop.specs.Accounts.{
+  IsMet,
+  LastKnows,
+  NobodyShut,
+  ServeCause,
+  ServeEnds,
+  Served,
+  Stops,
+  books,
+  retired_of,
+}
 use Rattle.poll_loop.specs.Connections.{HasBroken, going_on, service_by, shutting_down}
 use Rattle.poll_loop.specs.Entries.{EntryHolds, Grounds, Service, spill_faults}
 use Rattle.poll_loop.specs.Lists.{EachIs}
@@ -23,24 +59,63 @@ use Rattle.poll_loop.specs.declared.settings.ServeFault.{ServeFault}
 use Rattle.poll_loop.specs.declared.settings.ServeFault.TheVariants as fault
 use Rattle.poll_loop.specs.declared.settings.Settings.{Settings}
 use Rattle.waitress_serve.specs.Completeness.{IsAnswered, IsBrief, IsStill}
-use Rattle.waitress_serve.specs.Conclusions.{AnswersAll, BindCount, DoneAdds, DoneStops, FailsUnstopped, IsDownBy, IsOfServing, NetLeaves, OutCount, OutLeaves, PollCount, Ran, ServedAll, conclusion_of}
-use Rattle.waitress_serve.specs.Headline.{Added, KeepsLimit, RetiresGiven, SettlesSpills, ShutLast, WentDown, grounds}
+use Rattle.waitress_serve.specs.Conclusions.{
+  AnswersAll,
+  BindCount,
+  DoneAdds,
+  DoneStops,
+  FailsUnstopped,
+  IsDownBy,
+  IsOfServing,
+  NetLeaves,
+  OutCount,
+  OutLeaves,
+  PollCount,
+  Ran,
+  ServedAll,
+  conclusion_of,
+}
+use Rattle.waitress_serve.specs.Headline.{
+  Added,
+  KeepsLimit,
+  RetiresGiven,
+  SettlesSpills,
+  ShutLast,
+  WentDown,
+  grounds,
+}
 use Rattle.waitress_serve.specs.Owed.{owed_by, service_for, service_with}
 use Rattle.waitress_serve.specs.Reports.{Unwritten, Written}
 use Rattle.waitress_serve.specs.Settings.{settings_for}
 use Rattle.waitress_serve.specs.Status.{MeetsLimit, Reading, ToldStop, timeout_by}
 use Rattle.waitress_serve.specs.declared.conclusion.Conclusion.{Conclusion}
 use Rattle.waitress_serve.specs.declared.conclusion.Conclusion.TheVariants as conclusion
-use Rattle.waitress_serve.proofs.Ends.{answered_end, each_append, each_both, each_front, each_map, each_none, none_spilled, not_shut, weaker_entry}
+use Rattle.waitress_serve.proofs.Ends.{
+  answered_end,
+  each_append,
+  each_both,
+  each_front,
+  each_map,
+  each_none,
+  none_spilled,
+  not_shut,
+  weaker_entry,
+}
 
 -- ---- nobody was served
 
 -- nothing was added
-pub nothing_added : {E : Type 0} (Holds : E → Type 0) (old new : List E) → new ≡ old → Added Holds old new
-nothing_added Holds old new same = record { entries = []; whole = same ∙ sym (append-nil old); each = tt }
+pub nothing_added : {E : Type 0} (Holds : E → Type 0) (old new : List E) → new ≡ old →
+    Added Holds old new
+nothing_added Holds old new same = record {
+  entries = [];
+  whole = same ∙ sym (append-nil old);
+  each = tt;
+}
 
 -- no spill was settled
-pub nothing_settled : {L : Type 0} (old new : List (Retired L)) (before now : ℕ) → new ≡ old → now ≡ before → SettlesSpills before now old new
+pub nothing_settled : {L : Type 0} (old new : List (Retired L)) (before now : ℕ) → new ≡ old →
+    now ≡ before → SettlesSpills before now old new
 nothing_settled {L} old new before now closed same = record {
   entries = [];
   whole = closed ∙ sym (append-nil old);
@@ -48,7 +123,8 @@ nothing_settled {L} old new before now closed same = record {
 }
 
 -- nobody came and nobody was retired
-pub nobody_given : {L P : Type 0} (plan : L → P) (old new : NetState L P) → new.given ≡ old.given → new.closed ≡ old.closed → RetiresGiven plan old new
+pub nobody_given : {L P : Type 0} (plan : L → P) (old new : NetState L P) → new.given ≡ old.given →
+    new.closed ≡ old.closed → RetiresGiven plan old new
 nobody_given plan old new given closed = record {
   given = [];
   entries = [];
@@ -57,7 +133,8 @@ nobody_given plan old new given closed = record {
   same = IsPermutation-refl _;
 }
 
-adds_nothing : {E : Type 0} (Holds : E → Type 0) (c : Conclusion) (old new : List E) → new ≡ old → DoneAdds Holds c old new
+adds_nothing : {E : Type 0} (Holds : E → Type 0) (c : Conclusion) (old new : List E) → new ≡ old →
+    DoneAdds Holds c old new
 adds_nothing Holds conclusion.Done old new same = nothing_added Holds old new same
 adds_nothing Holds (conclusion.Usage fault) old new same = tt
 adds_nothing Holds conclusion.NotBuilt old new same = tt
@@ -66,7 +143,8 @@ adds_nothing Holds conclusion.Unprinted old new same = tt
 adds_nothing Holds conclusion.PollFailed old new same = tt
 adds_nothing Holds conclusion.NoMemory old new same = tt
 
-still_unstopped : {L P : Type 0} (c : Conclusion) (old new : NetState L P) → new.stopped ≡ old.stopped → FailsUnstopped c old new
+still_unstopped : {L P : Type 0} (c : Conclusion) (old new : NetState L P) →
+    new.stopped ≡ old.stopped → FailsUnstopped c old new
 still_unstopped conclusion.PollFailed old new same = λ stop. subst IsTrue same stop
 still_unstopped conclusion.Done old new same = tt
 still_unstopped (conclusion.Usage fault) old new same = tt
@@ -86,19 +164,23 @@ stays conclusion.PollFailed net = tt
 stays conclusion.NoMemory net = tt
 
 -- nothing was done to the net but a bind
-pub ran_none : {L P : Type 0} (service : Service) (broke : Type 0) (e : Eyes L P) (listen : List Listen) (c : Conclusion) (before now : ℕ) (old new : NetState L P)
-    (bound : Option (List Listen)) → new ≡ record old { bound = bound } → now ≡ before → NetLeaves c old new → Ran service broke e listen c before now old new
+pub ran_none : {L P : Type 0} (service : Service) (broke : Type 0) (e : Eyes L P)
+    (listen : List Listen) (c : Conclusion) (before now : ℕ) (old new : NetState L P)
+    (bound : Option (List Listen)) → new ≡ record old { bound = bound } → now ≡ before →
+    NetLeaves c old new → Ran service broke e listen c before now old new
 ran_none service broke e listen c before now old new bound is same leaves = record {
   headline = nothing_added _ old.closed new.closed (ap (λ s. s.closed) is);
   shut_last = inl (ap (λ s. s.closed) is);
   given = nobody_given e.plan old new (ap (λ s. s.given) is) (ap (λ s. s.closed) is);
   live = ap (λ s. s.live) is;
   quiet = ap (λ s. s.quiet) is;
-  bound = λ more. let p : new.polls ≡ old.polls = ap (λ s. s.polls) is in absurd (omega (arith, more, p));
+  bound = λ more. let p : new.polls ≡ old.polls = ap (λ s. s.polls) is in absurd
+      (omega (arith, more, p));
   settled = nothing_settled old.closed new.closed before now (ap (λ s. s.closed) is) same;
   net = leaves;
   unstopped = still_unstopped c old new (ap (λ s. s.stopped) is);
-  complete = λ none told all quiet still brief. adds_nothing _ c old.closed new.closed (ap (λ s. s.closed) is);
+  complete = λ none told all quiet still brief. adds_nothing _ c old.closed new.closed
+      (ap (λ s. s.closed) is);
 }
 
 -- ---- serving ended
@@ -110,9 +192,13 @@ none_behind old xs ys e =
     let inner = length-append xs ys in
     omega (arith, whole, outer, inner)
 
-module _ {L P : Type 0} (service : Service) (broke : Type 0) (e : Eyes L P) (listen : List Listen) (limit : Option ℕ) (before now : ℕ) (old mid new : NetState L P)
-    (is : mid ≡ record old { bound = Some listen }) (result : Result Going ServeFault) (fallen : ℕ) (who : List (Peer × P))
-    (s : Served result (EntryHolds service (going_on broke) e.state e.faults) (EntryHolds service (shutting_down broke) e.state e.faults) e.plan (books mid before 0 []) (books new now fallen who)) where
+module _ {L P : Type 0} (service : Service) (broke : Type 0) (e : Eyes L P) (listen : List Listen)
+    (limit : Option ℕ) (before now : ℕ) (old mid new : NetState L P)
+    (is : mid ≡ record old { bound = Some listen }) (result : Result Going ServeFault) (fallen : ℕ)
+    (who : List (Peer × P))
+    (s : Served result (EntryHolds service (going_on broke) e.state e.faults)
+    (EntryHolds service (shutting_down broke) e.state e.faults) e.plan (books mid before 0 [])
+    (books new now fallen who)) where
   closed_is : new.closed ≡ old.closed ++ (s.before ++ s.after)
   closed_is = s.closed ∙ ap (λ m. m.closed ++ (s.before ++ s.after)) is
 
@@ -127,23 +213,32 @@ module _ {L P : Type 0} (service : Service) (broke : Type 0) (e : Eyes L P) (lis
 
   -- why those that were shut down were
   stopped_for : Stops mid new → ToldStop old new
-  stopped_for stops = record { polled = subst (λ m. Rose m.polls new.polls) is stops.polled; stopped = stops.stopped }
+  stopped_for stops = record {
+    polled = subst (λ m. Rose m.polls new.polls) is stops.polled;
+    stopped = stops.stopped;
+  }
 
   last_by : (r : Result Going ServeFault) → NobodyShut r s.after → ServeEnds r limit 0 mid new →
-      EachIs (EntryHolds service (grounds (IsDownBy (conclusion_of r) old new) broke) e.state e.faults new) s.after
+      EachIs (EntryHolds service (grounds (IsDownBy (conclusion_of r) old new) broke) e.state
+      e.faults new) s.after
   last_by (Ok going.Stopped) nobody ends =
-      each_map _ _ (weaker_entry service (shutting_down broke) (grounds (ToldStop old new) broke) (λ _. stopped_for ends) (λ b. b) e.state e.faults new) s.after s.last
+      each_map _ _ (weaker_entry service (shutting_down broke) (grounds (ToldStop old new) broke)
+      (λ _. stopped_for ends) (λ b. b) e.state e.faults new) s.after s.last
   last_by (Ok going.LimitMet) nobody ends = subst (EachIs _) (sym nobody) tt
   last_by (Ok going.On) nobody ends = absurd nobody
   last_by (Err fault.Net) nobody ends = s.last
   last_by (Err fault.NoMemory) nobody ends = s.last
 
-  headline : ServeEnds result limit 0 mid new → Added (EntryHolds service (grounds (IsDownBy (conclusion_of result) old new) broke) e.state e.faults new) old.closed new.closed
+  headline : ServeEnds result limit 0 mid new → Added (EntryHolds service
+      (grounds (IsDownBy (conclusion_of result) old new) broke) e.state e.faults new) old.closed
+      new.closed
   headline ends = record {
     entries = s.before ++ s.after;
     whole = closed_is;
     each = each_append _ s.before s.after
-        (each_map _ _ (weaker_entry service (going_on broke) (grounds (IsDownBy (conclusion_of result) old new) broke) (λ never. absurd never) (λ b. b) e.state e.faults new) s.before s.each)
+        (each_map _ _ (weaker_entry service (going_on broke)
+        (grounds (IsDownBy (conclusion_of result) old new) broke) (λ never. absurd never)
+        (λ b. b) e.state e.faults new) s.before s.each)
         (last_by result s.nobody ends);
   }
 
@@ -158,29 +253,48 @@ module _ {L P : Type 0} (service : Service) (broke : Type 0) (e : Eyes L P) (lis
         before = s.before;
         after = s.after;
         whole = closed_is;
-        earlier = each_map _ _ (λ entry h. not_shut service broke new (e.state entry.link) (e.faults entry.link) _ entry.end h.cause) s.before s.each;
+        earlier = each_map _ _ (λ entry h. not_shut service broke new (e.state entry.link)
+            (e.faults entry.link) _ entry.end h.cause) s.before s.each;
         shut = s.shut;
         were_open = omega (arith, o, l);
       }
 
   shut_last : (new.closed ≡ old.closed) ⊎ ShutLast old new
-  shut_last = elim (s.knows (inl refl)) [ inl same ↦ inl (same ∙ ap (λ m. m.closed) is) | inr k ↦ inr (shut_last_known k) ]
+  shut_last = elim (s.knows (inl refl)) [
+    | inl same ↦ inl (same ∙ ap (λ m. m.closed) is)
+    | inr k ↦
+        inr (shut_last_known k)
+  ]
 
   given : RetiresGiven e.plan old new
-  given = record { given = s.since; entries = s.before ++ s.after; came = given_is; retired = closed_is; same = s.same }
+  given = record {
+    given = s.since;
+    entries = s.before ++ s.after;
+    came = given_is;
+    retired =
+        closed_is;
+    same = s.same;
+  }
 
   -- where a quiet net told to stop, nothing was open
-  nothing_known : LastKnows (record new { live = new.live + length s.after }) → Stops mid new → IsTrue mid.quiet → length s.after ≡ 0
+  nothing_known : LastKnows (record new { live = new.live + length s.after }) → Stops mid new →
+      IsTrue mid.quiet → length s.after ≡ 0
   nothing_known k stops quiet =
       let last : k.poll ≡ stops.poll = cc (k.last, stops.last) in
       let empty : k.poll.live ≡ 0 = ap (λ p. p.live) last ∙ stops.empty quiet in
-      let same : length k.poll.given ≡ length new.given = ap (λ p. length p.given) last ∙ ap length (sym stops.given) in
+      let same : length k.poll.given ≡ length new.given = ap (λ p. length p.given) last ∙
+      ap length (sym stops.given) in
       let o = k.open' in
       omega (arith, o, empty, same)
 
-  nobody_by : (r : Result Going ServeFault) → NobodyShut r s.after → ServeEnds r limit 0 mid new → conclusion_of r ≡ conclusion.Done → IsTrue mid.quiet → length s.after ≡ 0
+  nobody_by : (r : Result Going ServeFault) → NobodyShut r s.after → ServeEnds r limit 0 mid new →
+      conclusion_of r ≡ conclusion.Done → IsTrue mid.quiet → length s.after ≡ 0
   nobody_by (Ok going.Stopped) nobody ends done quiet =
-      elim (s.knows (inl refl)) [ inl same ↦ none_behind mid.closed s.before s.after (sym s.closed ∙ same) | inr k ↦ nothing_known k ends quiet ]
+      elim (s.knows (inl refl)) [
+        | inl same ↦ none_behind mid.closed s.before s.after
+            (sym s.closed ∙ same)
+        | inr k ↦ nothing_known k ends quiet
+      ]
   nobody_by (Ok going.LimitMet) nobody ends done quiet = ap length nobody
   nobody_by (Ok going.On) nobody ends done quiet = absurd nobody
   nobody_by (Err fault.Net) nobody ends done quiet = cc
@@ -191,11 +305,14 @@ module _ {L P : Type 0} (service : Service) (broke : Type 0) (e : Eyes L P) (lis
     where
       by : (n : ℕ) → added before n ≤ now → n ≡ 0
       by zero counted = refl
-      by (suc n) counted = let rose : raised before ≤ now = omega (arith, counted) in absurd (still rose)
+      by (suc n) counted = let rose : raised before ≤ now =
+          omega (arith, counted) in absurd (still rose)
 
   -- where nothing happened, each was answered
-  answered : (r : Result Going ServeFault) → NobodyShut r s.after → ServeEnds r limit 0 mid new → conclusion_of r ≡ conclusion.Done →
-      (broke → ⊥) → IsTrue service.tells.link → IsTrue service.tells.all → IsTrue old.quiet → IsStill before now → IsBrief service.timeout new →
+  answered : (r : Result Going ServeFault) → NobodyShut r s.after → ServeEnds r limit 0 mid new →
+      conclusion_of r ≡ conclusion.Done →
+      (broke → ⊥) → IsTrue service.tells.link → IsTrue service.tells.all → IsTrue old.quiet →
+      IsStill before now → IsBrief service.timeout new →
       Added (IsAnswered e.state e.faults service.owed) old.closed new.closed
   answered r nobody ends done none told all quiet still brief =
       let unspilled = none_spilled (s.before ++ s.after) (none_spilled_of still) in
@@ -203,17 +320,22 @@ module _ {L P : Type 0} (service : Service) (broke : Type 0) (e : Eyes L P) (lis
         entries = s.before ++ s.after;
         whole = closed_is;
         each = each_append _ s.before s.after
-            (each_both _ _ _ (λ entry h unspilt faultless. answered_end service broke new none told all brief (e.state entry.link) (e.faults entry.link) _ entry.end h.timely h.cause unspilt faultless)
+            (each_both _ _ _ (λ entry h unspilt faultless.
+            answered_end service broke new none told all brief (e.state entry.link)
+            (e.faults entry.link) _ entry.end h.timely h.cause unspilt faultless)
             s.before s.each (each_front _ s.before s.after unspilled))
-            (each_none _ s.after (nobody_by r nobody ends done (subst (λ m. IsTrue m.quiet) (sym is) quiet)));
+            (each_none _ s.after (nobody_by r nobody ends done
+            (subst (λ m. IsTrue m.quiet) (sym is) quiet)));
       }
 
-  complete : (r : Result Going ServeFault) → NobodyShut r s.after → ServeEnds r limit 0 mid new → AnswersAll service broke e (conclusion_of r) before now old new
+  complete : (r : Result Going ServeFault) → NobodyShut r s.after → ServeEnds r limit 0 mid new →
+      AnswersAll service broke e (conclusion_of r) before now old new
   complete (Ok going) nobody ends = answered (Ok going) nobody ends refl
   complete (Err fault.Net) nobody ends = λ none told all quiet still brief. tt
   complete (Err fault.NoMemory) nobody ends = λ none told all quiet still brief. tt
 
-  unstopped : (r : Result Going ServeFault) → ServeEnds r limit 0 mid new → FailsUnstopped (conclusion_of r) old new
+  unstopped : (r : Result Going ServeFault) → ServeEnds r limit 0 mid new →
+      FailsUnstopped (conclusion_of r) old new
   unstopped (Ok going) ends = tt
   unstopped (Err fault.Net) ends = λ stop. subst (λ m. IsTrue m.stopped) is (ends stop)
   unstopped (Err fault.NoMemory) ends = tt
@@ -223,7 +345,8 @@ module _ {L P : Type 0} (service : Service) (broke : Type 0) (e : Eyes L P) (lis
   leaves (Err fault.Net) = tt
   leaves (Err fault.NoMemory) = tt
 
-  ran : ServeEnds result limit 0 mid new → Ran service broke e listen (conclusion_of result) before now old new
+  ran : ServeEnds result limit 0 mid new → Ran service broke e listen (conclusion_of result) before
+      now old new
   ran ends = record {
     headline = headline ends;
     shut_last = shut_last;
@@ -244,7 +367,8 @@ module _ {L P : Type 0} (service : Service) (broke : Type 0) (e : Eyes L P) (lis
       let came = ap length given_is ∙ length-append old.given s.since in
       let went = ap length closed_is ∙ length-append old.closed (s.before ++ s.after) in
       let same = length_permutation s.since (retired_of e.plan (s.before ++ s.after)) s.same in
-      let each = length-map {B = Peer × P} (s.before ++ s.after) (λ entry. (entry.peer, e.plan entry.link)) in
+      let each = length-map {B = Peer × P} (s.before ++ s.after)
+      (λ entry. (entry.peer, e.plan entry.link)) in
       record {
         count = m.count;
         limited = m.limited;
@@ -252,7 +376,8 @@ module _ {L P : Type 0} (service : Service) (broke : Type 0) (e : Eyes L P) (lis
         went = omega (arith, counted, begun, came, went, same, each);
       }
 
-  stops_by : (r : Result Going ServeFault) → NobodyShut r s.after → ServeEnds r limit 0 mid new → DoneStops limit (conclusion_of r) old new
+  stops_by : (r : Result Going ServeFault) → NobodyShut r s.after → ServeEnds r limit 0 mid new →
+      DoneStops limit (conclusion_of r) old new
   stops_by (Ok going.Stopped) nobody ends = inl (record {
     stopped = ends.stopped;
     polled = subst (λ m. Rose m.polls new.polls) is ends.polled;
@@ -271,23 +396,33 @@ module _ {L P : Type 0} (service : Service) (broke : Type 0) (e : Eyes L P) (lis
   stops ends = stops_by result s.nobody ends
 
 -- a server with these options served, behind a bind
-module _ {L P A : Type 0} (tells : Telling) (script : A → Script) (app : A) (options : Adjustments) (broke : Type 0) (e : Eyes L P) (listen : List Listen)
-    (before now : ℕ) (old mid new : NetState L P) (is : mid ≡ record old { bound = Some listen }) (result : Result Going ServeFault)
-    (c : Conclusion) (concludes : c ≡ conclusion_of result) (settings : Settings) (by : settings ≡ settings_for options)
-    (all : ServedAll result (service_by tells script settings app) broke e before now mid new) (ends : ServeEnds result settings.serve_limit 0 mid new) where
-  all_by : ServedAll result (service_by tells script (settings_for options) app) broke e before now mid new
-  all_by = subst (λ x. ServedAll result (service_by tells script x app) broke e before now mid new) by all
+module _ {L P A : Type 0} (tells : Telling) (script : A → Script) (app : A) (options : Adjustments)
+    (broke : Type 0) (e : Eyes L P) (listen : List Listen)
+    (before now : ℕ) (old mid new : NetState L P) (is : mid ≡ record old { bound = Some listen })
+    (result : Result Going ServeFault)
+    (c : Conclusion) (concludes : c ≡ conclusion_of result) (settings : Settings)
+    (by : settings ≡ settings_for options)
+    (all : ServedAll result (service_by tells script settings app) broke e before now mid new)
+    (ends : ServeEnds result settings.serve_limit 0 mid new) where
+  all_by : ServedAll result (service_by tells script (settings_for options) app) broke e before now
+      mid new
+  all_by = subst (λ x. ServedAll result (service_by tells script x app) broke e before now mid new)
+      by all
 
   ends_by : ServeEnds result options.serve_limit 0 mid new
   ends_by = subst (λ x. ServeEnds result x.serve_limit 0 mid new) by ends
 
-  pub started_ran : Ran (service_with tells options (script app)) broke e listen c before now old new
-  started_ran = subst (λ x. Ran (service_with tells options (script app)) broke e listen x before now old new) (sym concludes)
-      (ran (service_with tells options (script app)) broke e listen options.serve_limit before now old mid new is result all_by.fallen all_by.who all_by.served ends_by)
+  pub started_ran : Ran (service_with tells options (script app)) broke e listen c before now old
+      new
+  started_ran = subst (λ x. Ran (service_with tells options (script app)) broke e listen x before
+      now old new) (sym concludes)
+      (ran (service_with tells options (script app)) broke e listen options.serve_limit before now
+      old mid new is result all_by.fallen all_by.who all_by.served ends_by)
 
   pub started_stops : DoneStops options.serve_limit c old new
   started_stops = subst (λ x. DoneStops options.serve_limit x old new) (sym concludes)
-      (stops (service_with tells options (script app)) broke e listen options.serve_limit before now old mid new is result all_by.fallen all_by.who all_by.served ends_by)
+      (stops (service_with tells options (script app)) broke e listen options.serve_limit before now
+      old mid new is result all_by.fallen all_by.who all_by.served ends_by)
 
 -- ---- counts, by how serving ended
 
@@ -296,22 +431,26 @@ is_of_serving (Ok going) = tt
 is_of_serving (Err fault.Net) = tt
 is_of_serving (Err fault.NoMemory) = tt
 
-pub bind_count : (r : Result Going ServeFault) (before now : ℕ) → now ≡ before → BindCount (conclusion_of r) before now
+pub bind_count : (r : Result Going ServeFault) (before now : ℕ) → now ≡ before →
+    BindCount (conclusion_of r) before now
 bind_count (Ok going) before now same = same
 bind_count (Err fault.Net) before now same = same
 bind_count (Err fault.NoMemory) before now same = same
 
-pub poll_count : (r : Result Going ServeFault) (before now : ℕ) → ServeCause r before now → PollCount (conclusion_of r) before now
+pub poll_count : (r : Result Going ServeFault) (before now : ℕ) → ServeCause r before now →
+    PollCount (conclusion_of r) before now
 poll_count (Ok going) before now cause = cause
 poll_count (Err fault.Net) before now cause = cause
 poll_count (Err fault.NoMemory) before now cause = cause
 
-pub out_count : (r : Result Going ServeFault) (before now : ℕ) → now ≡ before → OutCount (conclusion_of r) before now
+pub out_count : (r : Result Going ServeFault) (before now : ℕ) → now ≡ before →
+    OutCount (conclusion_of r) before now
 out_count (Ok going) before now same = same
 out_count (Err fault.Net) before now same = same
 out_count (Err fault.NoMemory) before now same = same
 
-pub out_leaves : (text : List ℕ) (r : Result Going ServeFault) (old new : List ℕ) → new ≡ old ++ text → OutLeaves text (conclusion_of r) old new
+pub out_leaves : (text : List ℕ) (r : Result Going ServeFault) (old new : List ℕ) →
+    new ≡ old ++ text → OutLeaves text (conclusion_of r) old new
 out_leaves text (Ok going) old new whole = whole
 out_leaves text (Err fault.Net) old new whole = whole
 out_leaves text (Err fault.NoMemory) old new whole = inr whole
@@ -322,9 +461,11 @@ out_leaves text (Err fault.NoMemory) old new whole = inr whole
 pub none_broke : {R : Type 0} → HasBroken {R = R} (λ _. 0) → ⊥
 none_broke h = let some = h.1 in omega (arith, some)
 
-pub added_for : {L P : Type 0} (service : Service) (g h : Grounds) → (g.shutdown → h.shutdown) → (g.broke → h.broke) →
+pub added_for : {L P : Type 0} (service : Service) (g h : Grounds) → (g.shutdown → h.shutdown) →
+    (g.broke → h.broke) →
     (state : L → LinkState) (faults : L → ℕ) (net : NetState L P) (old new : List (Retired L)) →
-    Added (EntryHolds service g state faults net) old new → Added (EntryHolds service h state faults net) old new
+    Added (EntryHolds service g state faults net) old new →
+    Added (EntryHolds service h state faults net) old new
 added_for service g h downs breaks state faults net old new a = record {
   entries = a.entries;
   whole = a.whole;
@@ -332,10 +473,13 @@ added_for service g h downs breaks state faults net old new a = record {
 }
 
 -- no run of the application can break
-pub ran_unbroken : {L P : Type 0} (service : Service) (broke : Type 0) (none : broke → ⊥) (e : Eyes L P) (listen : List Listen) (c : Conclusion) (before now : ℕ) (old new : NetState L P) →
+pub ran_unbroken : {L P : Type 0} (service : Service) (broke : Type 0) (none : broke → ⊥)
+    (e : Eyes L P) (listen : List Listen) (c : Conclusion) (before now : ℕ)
+    (old new : NetState L P) →
     Ran service broke e listen c before now old new → Ran service ⊥ e listen c before now old new
 ran_unbroken service broke none e listen c before now old new r = record {
-  headline = added_for service (grounds (IsDownBy c old new) broke) (grounds (IsDownBy c old new) ⊥) (λ d. d) none e.state e.faults new old.closed new.closed r.headline;
+  headline = added_for service (grounds (IsDownBy c old new) broke) (grounds (IsDownBy c old new) ⊥)
+      (λ d. d) none e.state e.faults new old.closed new.closed r.headline;
   shut_last = r.shut_last;
   given = r.given;
   live = r.live;
@@ -347,25 +491,41 @@ ran_unbroken service broke none e listen c before now old new r = record {
   complete = λ never. r.complete none;
 }
 
-all_tell : (links spills : Bool) → IsTrue links → IsTrue spills → IsTrue (links && (spills && spills))
+all_tell : (links spills : Bool) → IsTrue links → IsTrue spills →
+    IsTrue (links && (spills && spills))
 all_tell true true link spill = refl
 all_tell true false link spill = spill
 all_tell false spills link spill = link
 
 -- what is asked for was read
-pub read_complete : {L P : Type 0} (links spills : Bool) (asked read : Reading) → asked ≡ read → (e : Eyes L P) (listen : List Listen) (c : Conclusion) (before now : ℕ) (old new : NetState L P) →
-    Ran (service_for (telling links spills spills) read) ⊥ e listen c before now old new → IsTrue links → IsTrue spills → IsTrue old.quiet → IsStill before now →
-    IsBrief (timeout_by asked) new → DoneAdds (IsAnswered e.state e.faults (owed_by asked)) c old.closed new.closed
+pub read_complete : {L P : Type 0} (links spills : Bool) (asked read : Reading) → asked ≡ read →
+    (e : Eyes L P) (listen : List Listen) (c : Conclusion) (before now : ℕ)
+    (old new : NetState L P) →
+    Ran (service_for (telling links spills spills) read) ⊥ e listen c before now old new →
+    IsTrue links → IsTrue spills → IsTrue old.quiet → IsStill before now →
+    IsBrief (timeout_by asked) new → DoneAdds (IsAnswered e.state e.faults (owed_by asked)) c
+    old.closed new.closed
 read_complete links spills asked read is e listen c before now old new r link spill quiet still =
-    subst (λ a. IsBrief (timeout_by a) new → DoneAdds (IsAnswered e.state e.faults (owed_by a)) c old.closed new.closed) (sym is)
+    subst (λ a. IsBrief (timeout_by a) new → DoneAdds (IsAnswered e.state e.faults (owed_by a)) c
+    old.closed new.closed) (sym is)
     (r.complete (λ never. never) link (all_tell links spills link spill) quiet still)
 
 -- why the whole server went down, where a report says so
-pub report_down : {L P : Type 0} (status result : ℕ) (old new : NetState L P) (before now : ℕ) → (status ≡ 4) ⊎ (status ≡ 5) → Written status result before now ⊎ Unwritten result before now → WentDown result old new before now
+pub report_down : {L P : Type 0} (status result : ℕ) (old new : NetState L P) (before now : ℕ) →
+    (status ≡ 4) ⊎ (status ≡ 5) → Written status result before now ⊎ Unwritten result before now →
+    WentDown result old new before now
 report_down status result old new before now four h =
-    elim h [ inl w ↦ elim four [ inl e ↦ inr (inl (w.status_is ∙ e)) | inr e ↦ inr (inr (inl (w.status_is ∙ e))) ] | inr w ↦ inr (inr (inr (w.six, w.rose))) ]
+    elim h [
+      | inl w ↦ elim four [
+        | inl e ↦ inr (inl (w.status_is ∙ e))
+        | inr e ↦ inr
+            (inr (inl (w.status_is ∙ e)))
+      ]
+      | inr w ↦ inr (inr (inr (w.six, w.rose)))
+    ]
 
 -- nobody came
-pub keeps_same : {L P : Type 0} (limit : Option ℕ) (old new : NetState L P) → new.given ≡ old.given → KeepsLimit limit old new
+pub keeps_same : {L P : Type 0} (limit : Option ℕ) (old new : NetState L P) →
+    new.given ≡ old.given → KeepsLimit limit old new
 keeps_same None old new e = tt
 keeps_same (Some limit) old new e = let n = ap length e in omega (arith, n)

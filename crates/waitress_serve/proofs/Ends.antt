@@ -1,5 +1,25 @@
 -- Why a link was retired.
-use Rattle.std.proofs.Common.{◌≡◌, ◌≤◌, ◌+◌, ◌⊎◌, inl, inr, ℕ, Bool, true, false, IsTrue, List, [], ◌∷◌, ◌++◌, length, refl, arith, cond}
+use Rattle.std.proofs.Common.{
+  ◌≡◌,
+  ◌≤◌,
+  ◌+◌,
+  ◌⊎◌,
+  inl,
+  inr,
+  ℕ,
+  Bool,
+  true,
+  false,
+  IsTrue,
+  List,
+  [],
+  ◌∷◌,
+  ◌++◌,
+  length,
+  refl,
+  arith,
+  cond,
+}
 use Rattle.std.specs.Prelude.{Option, Some, None, IfSome, filter, ◌≢◌}
 use Rattle.channel.specs.Views.{Owed}
 use Rattle.outside.specs.Link.{LinkState}
@@ -8,25 +28,37 @@ use Rattle.outside.specs.declared.retired.Retired.{Retired}
 use Rattle.outside.specs.declared.types.End.{End}
 use Rattle.outside.specs.declared.types.End.TheVariants as over
 use Rattle.poll_loop.specs.Connections.{going_on}
-use Rattle.poll_loop.specs.Entries.{EndHolds, EntryHolds, Grounds, IsTimely, Service, is_spill_fault, spill_faults}
+use Rattle.poll_loop.specs.Entries.{
+  EndHolds,
+  EntryHolds,
+  Grounds,
+  IsTimely,
+  Service,
+  is_spill_fault,
+  spill_faults,
+}
 use Rattle.poll_loop.specs.Lists.{EachIs}
 use Rattle.waitress_serve.specs.Completeness.{IsBrief}
 
 -- ---- lists of which each item is so
 
-pub each_append : {X : Type 0} (Is : X → Type 0) (xs ys : List X) → EachIs Is xs → EachIs Is ys → EachIs Is (xs ++ ys)
+pub each_append : {X : Type 0} (Is : X → Type 0) (xs ys : List X) → EachIs Is xs → EachIs Is ys →
+    EachIs Is (xs ++ ys)
 each_append Is [] ys h k = k
 each_append Is (x ∷ xs) ys h k = (h.0, each_append Is xs ys h.1 k)
 
-pub each_map : {X : Type 0} (Is Also : X → Type 0) → ((x : X) → Is x → Also x) → (xs : List X) → EachIs Is xs → EachIs Also xs
+pub each_map : {X : Type 0} (Is Also : X → Type 0) → ((x : X) → Is x → Also x) → (xs : List X) →
+    EachIs Is xs → EachIs Also xs
 each_map Is Also f [] h = tt
 each_map Is Also f (x ∷ xs) h = (f x h.0, each_map Is Also f xs h.1)
 
-pub each_both : {X : Type 0} (Is Also Then : X → Type 0) → ((x : X) → Is x → Also x → Then x) → (xs : List X) → EachIs Is xs → EachIs Also xs → EachIs Then xs
+pub each_both : {X : Type 0} (Is Also Then : X → Type 0) → ((x : X) → Is x → Also x → Then x) →
+    (xs : List X) → EachIs Is xs → EachIs Also xs → EachIs Then xs
 each_both Is Also Then f [] h k = tt
 each_both Is Also Then f (x ∷ xs) h k = (f x h.0 k.0, each_both Is Also Then f xs h.1 k.1)
 
-pub each_front : {X : Type 0} (Is : X → Type 0) (xs ys : List X) → EachIs Is (xs ++ ys) → EachIs Is xs
+pub each_front : {X : Type 0} (Is : X → Type 0) (xs ys : List X) → EachIs Is (xs ++ ys) →
+    EachIs Is xs
 each_front Is [] ys h = tt
 each_front Is (x ∷ xs) ys h = (h.0, each_front Is xs ys h.1)
 
@@ -36,9 +68,11 @@ each_none Is (x ∷ xs) none = absurd (omega (arith, none))
 
 -- ---- weaker grounds
 
-module _ {L P : Type 0} (service : Service) (g h : Grounds) (downs : g.shutdown → h.shutdown) (breaks : g.broke → h.broke)
+module _ {L P : Type 0} (service : Service) (g h : Grounds) (downs : g.shutdown → h.shutdown)
+    (breaks : g.broke → h.broke)
     (state : L → LinkState) (faults : L → ℕ) (net : NetState L P) where
-  weaker_end : (link : LinkState) (count : ℕ) (owed : Owed) (end : End) → EndHolds service g net link count owed end → EndHolds service h net link count owed end
+  weaker_end : (link : LinkState) (count : ℕ) (owed : Owed) (end : End) →
+      EndHolds service g net link count owed end → EndHolds service h net link count owed end
   weaker_end link count owed over.Done is = is
   weaker_end link count owed over.LinkFault is = is
   weaker_end link count owed over.SpillFault is = is
@@ -47,18 +81,21 @@ module _ {L P : Type 0} (service : Service) (g h : Grounds) (downs : g.shutdown 
   weaker_end link count owed (over.TimedOut touched now) is = is
   weaker_end link count owed over.ShutDown is = downs is
 
-  pub weaker_entry : (entry : Retired L) → EntryHolds service g state faults net entry → EntryHolds service h state faults net entry
+  pub weaker_entry : (entry : Retired L) → EntryHolds service g state faults net entry →
+      EntryHolds service h state faults net entry
   weaker_entry entry is = record {
     prefix = is.prefix;
     timely = is.timely;
-    cause = weaker_end (state entry.link) (faults entry.link) (service.owed entry.peer (state entry.link).arrivals) entry.end is.cause;
+    cause = weaker_end (state entry.link) (faults entry.link)
+        (service.owed entry.peer (state entry.link).arrivals) entry.end is.cause;
   }
 
 -- ---- while serving goes on
 
 module _ {L P : Type 0} (service : Service) (broke : Type 0) (net : NetState L P) where
   -- nobody is shut down
-  pub not_shut : (link : LinkState) (count : ℕ) (owed : Owed) (end : End) → EndHolds service (going_on broke) net link count owed end → end ≢ over.ShutDown
+  pub not_shut : (link : LinkState) (count : ℕ) (owed : Owed) (end : End) →
+      EndHolds service (going_on broke) net link count owed end → end ≢ over.ShutDown
   not_shut link count owed over.Done is = λ e. cc
   not_shut link count owed over.LinkFault is = λ e. cc
   not_shut link count owed over.SpillFault is = λ e. cc
@@ -68,7 +105,8 @@ module _ {L P : Type 0} (service : Service) (broke : Type 0) (net : NetState L P
   not_shut link count owed over.ShutDown is = λ e. is
 
   -- nobody waits for longer than the timeout where no longer goes by
-  too_brief : (touched timeout now : ℕ) (first : Option ℕ) (began : ℕ) → first ≡ Some began → began ≤ touched → touched + timeout + 1 ≤ now → now ≤ last_moment net.last →
+  too_brief : (touched timeout now : ℕ) (first : Option ℕ) (began : ℕ) → first ≡ Some began →
+      began ≤ touched → touched + timeout + 1 ≤ now → now ≤ last_moment net.last →
       IfSome first (λ f. last_moment net.last ≤ f + timeout) → ⊥
   too_brief touched timeout now None began is since late until brief = cc
   too_brief touched timeout now (Some f) began is since late until brief =
@@ -77,31 +115,45 @@ module _ {L P : Type 0} (service : Service) (broke : Type 0) (net : NetState L P
       omega (arith, same, since, late, until, within)
 
   -- so each is answered, where no run breaks and no spill failed
-  pub answered_end : (broke → ⊥) → IsTrue service.tells.link → IsTrue service.tells.all → IsBrief service.timeout net →
-      (link : LinkState) (count : ℕ) (owed : Owed) (end : End) → (IsTrue service.tells.link → IsTimely net link) →
-      EndHolds service (going_on broke) net link count owed end → is_spill_fault end ≡ false → count ≡ 0 →
+  pub answered_end : (broke → ⊥) → IsTrue service.tells.link → IsTrue service.tells.all →
+      IsBrief service.timeout net →
+      (link : LinkState) (count : ℕ) (owed : Owed) (end : End) →
+      (IsTrue service.tells.link → IsTimely net link) →
+      EndHolds service (going_on broke) net link count owed end → is_spill_fault end ≡ false →
+      count ≡ 0 →
       (end ≡ over.NoMemory) ⊎ ((end ≡ over.Done) × (link.sent ≡ owed.output))
-  answered_end none told all brief link count owed over.Done timely is unspilled faultless = inr (refl, (is all).whole)
-  answered_end none told all brief link count owed over.LinkFault timely is unspilled faultless = absurd (omega (arith, is, faultless))
-  answered_end none told all brief link count owed over.SpillFault timely is unspilled faultless = cc
-  answered_end none told all brief link count owed over.AppFault timely is unspilled faultless = absurd (none is)
-  answered_end none told all brief link count owed over.NoMemory timely is unspilled faultless = inl refl
-  answered_end none told all brief link count owed (over.TimedOut touched now) timely is unspilled faultless =
+  answered_end none told all brief link count owed over.Done timely is unspilled faultless =
+      inr (refl, (is all).whole)
+  answered_end none told all brief link count owed over.LinkFault timely is unspilled faultless =
+      absurd (omega (arith, is, faultless))
+  answered_end none told all brief link count owed over.SpillFault timely is unspilled faultless =
+      cc
+  answered_end none told all brief link count owed over.AppFault timely is unspilled faultless =
+      absurd (none is)
+  answered_end none told all brief link count owed over.NoMemory timely is unspilled faultless =
+      inl refl
+  answered_end none told all brief link count owed (over.TimedOut touched now) timely is unspilled
+      faultless =
       let was = (timely told).touched in
       let same = is.0.touched_is told in
       let since = was.since in
       let late = is.0.late in
-      absurd (too_brief touched service.timeout now net.first was.first was.began (omega (arith, since, same)) (omega (arith, late)) is.1 brief)
-  answered_end none told all brief link count owed over.ShutDown timely is unspilled faultless = absurd is
+      absurd (too_brief touched service.timeout now net.first was.first was.began
+      (omega (arith, since, same)) (omega (arith, late)) is.1 brief)
+  answered_end none told all brief link count owed over.ShutDown timely is unspilled faultless =
+      absurd is
 
 -- a count of those that pass is 0 only where none passes
-none_first : {X : Type 0} (b : Bool) (x : X) (rest : List X) → length (cond b (x ∷ rest) rest) ≡ 0 → (b ≡ false) × (length rest ≡ 0)
+none_first : {X : Type 0} (b : Bool) (x : X) (rest : List X) → length (cond b (x ∷ rest) rest) ≡ 0 →
+    (b ≡ false) × (length rest ≡ 0)
 none_first true x rest none = absurd (omega (arith, none))
 none_first false x rest none = (refl, none)
 
 -- no entry ended by a fault of a spill
-pub none_spilled : {L : Type 0} (entries : List (Retired L)) → spill_faults entries ≡ 0 → EachIs (λ e. is_spill_fault e.end ≡ false) entries
+pub none_spilled : {L : Type 0} (entries : List (Retired L)) → spill_faults entries ≡ 0 →
+    EachIs (λ e. is_spill_fault e.end ≡ false) entries
 none_spilled [] none = tt
 none_spilled (entry ∷ entries) none =
-    let split = none_first (is_spill_fault entry.end) entry (filter (λ e. is_spill_fault e.end) entries) none in
+    let split = none_first (is_spill_fault entry.end) entry
+    (filter (λ e. is_spill_fault e.end) entries) none in
     (split.0, none_spilled entries split.1)

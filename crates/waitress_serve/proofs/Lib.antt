@@ -1,5 +1,4 @@
 mod Completing
 mod Concluded
 mod Ends
-mod Growing
 mod TextLemmas

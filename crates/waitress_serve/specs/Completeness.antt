@@ -19,13 +19,15 @@ abbrev pub IsBrief : {L P : Type 0} → ℕ → NetState L P → Type 0
 IsBrief timeout net = IfSome net.first (λ first. last_moment net.last ≤ first + timeout)
 
 -- it was sent all that it is owed, or was refused memory, unless its link failed
-abbrev pub IsAnswered : {L : Type 0} → (L → LinkState) → (L → ℕ) → (Peer → Input → Owed) → Retired L → Type 0
+abbrev pub IsAnswered : {L : Type 0} → (L → LinkState) → (L → ℕ) → (Peer → Input → Owed) →
+    Retired L → Type 0
 IsAnswered state faults owed entry = faults entry.link ≡ 0 →
     (entry.end ≡ over.NoMemory) ⊎ ((entry.end ≡ over.Done)
     × ((state entry.link).sent ≡ (owed entry.peer (state entry.link).arrivals).output))
 
 -- The status is 0, or 5 for want of memory; with 0 each connection was answered.
-pub record Completes {L : Type 0} (state : L → LinkState) (faults : L → ℕ) (owed : Peer → Input → Owed)
+pub record Completes {L : Type 0} (state : L → LinkState) (faults : L → ℕ)
+    (owed : Peer → Input → Owed)
     (status : ℕ) (old new : List (Retired L)) : Type 0 where
   pub status_is : (status ≡ 0) ⊎ (status ≡ 5)
   pub answered : status ≡ 0 → Added (IsAnswered state faults owed) old new

@@ -1,5 +1,22 @@
 -- Internal: what a command leaves, by how it ended.
-use Rattle.std.specs.Prelude.{◌≡◌, ◌<◌, ℕ, ◌⊎◌, ◌||◌, true, false, IsTrue, List, [], ◌++◌, Option, Some, Result, Ok, Err}
+use Rattle.std.specs.Prelude.{
+  ◌≡◌,
+  ◌<◌,
+  ℕ,
+  ◌⊎◌,
+  ◌||◌,
+  true,
+  false,
+  IsTrue,
+  List,
+  [],
+  ◌++◌,
+  Option,
+  Some,
+  Result,
+  Ok,
+  Err,
+}
 use Rattle.outside.specs.Causes.{Rose}
 use Rattle.outside.specs.Net.{NetState}
 use Rattle.outside.specs.declared.types.Listen.{Listen}
@@ -13,7 +30,16 @@ use Rattle.poll_loop.specs.declared.settings.ServeFault.{ServeFault}
 use Rattle.poll_loop.specs.declared.settings.ServeFault.TheVariants as fault
 use Rattle.waitress_serve.specs.Completeness.{IsAnswered, IsBrief, IsStill}
 use Rattle.waitress_serve.specs.Headline.{Added, RetiresGiven, SettlesSpills, ShutLast, grounds}
-use Rattle.waitress_serve.specs.Status.{MeetsLimit, Reading, ToldStop, WritesPart, is_faulty, is_unbuilt, prints, serves}
+use Rattle.waitress_serve.specs.Status.{
+  MeetsLimit,
+  Reading,
+  ToldStop,
+  WritesPart,
+  is_faulty,
+  is_unbuilt,
+  prints,
+  serves,
+}
 use Rattle.waitress_serve.specs.declared.conclusion.Conclusion.{Conclusion}
 use Rattle.waitress_serve.specs.declared.conclusion.Conclusion.TheVariants as conclusion
 
@@ -154,18 +180,23 @@ OutLeaves text conclusion.NoMemory old new = (new ≡ old) ⊎ (new ≡ old ++ t
 
 -- ---- all that it leaves of a net that tells
 
--- Where nothing happened to a quiet net, serving answered all: no run breaks, all tells, no spill failed,
+-- Where nothing happened to a quiet net, serving answered all: no run breaks, all tells, no spill
+-- failed,
 -- and no longer went by than the timeout.
-abbrev pub AnswersAll : {L P : Type 0} → Service → Type 0 → Eyes L P → Conclusion → ℕ → ℕ → NetState L P → NetState L P → Type 0
+abbrev pub AnswersAll : {L P : Type 0} → Service → Type 0 → Eyes L P → Conclusion → ℕ → ℕ →
+    NetState L P → NetState L P → Type 0
 AnswersAll service broke e conclusion before now old new =
-    (broke → ⊥) → IsTrue service.tells.link → IsTrue service.tells.all → IsTrue old.quiet → IsStill before now →
+    (broke → ⊥) → IsTrue service.tells.link → IsTrue service.tells.all → IsTrue old.quiet →
+    IsStill before now →
     IsBrief service.timeout new →
     DoneAdds (IsAnswered e.state e.faults service.owed) conclusion old.closed new.closed
 
 -- before and now are the counts of the spills
-pub record Ran {L P : Type 0} (service : Service) (broke : Type 0) (e : Eyes L P) (listen : List Listen)
+pub record Ran {L P : Type 0} (service : Service) (broke : Type 0) (e : Eyes L P)
+    (listen : List Listen)
     (conclusion : Conclusion) (before now : ℕ) (old new : NetState L P) : Type 0 where
-  pub headline : Added (EntryHolds service (grounds (IsDownBy conclusion old new) broke) e.state e.faults new)
+  pub headline : Added (EntryHolds service (grounds (IsDownBy conclusion old new) broke) e.state
+      e.faults new)
       old.closed new.closed
   pub shut_last : (new.closed ≡ old.closed) ⊎ ShutLast old new
   pub given : RetiresGiven e.plan old new
@@ -185,7 +216,8 @@ conclusion_of (Err fault.Net) = conclusion.PollFailed
 conclusion_of (Err fault.NoMemory) = conclusion.NoMemory
 
 -- Serving ended that began while nobody was open.
-pub record ServedAll {L P : Type 0} (result : Result Going ServeFault) (service : Service) (broken : Type 0) (e : Eyes L P)
+pub record ServedAll {L P : Type 0} (result : Result Going ServeFault) (service : Service)
+    (broken : Type 0) (e : Eyes L P)
     (before now : ℕ) (old new : NetState L P) : Type 0 where
   pub fallen : ℕ
   pub who : List (Peer × P)

@@ -1,5 +1,29 @@
 -- The statuses of the program, their causes and their texts.
-use Rattle.std.specs.Prelude.{◌≡◌, ◌+◌, ℕ, Bool, true, false, IsTrue, List, [], ◌∷◌, ◌++◌, ◌||◌, length, take, if◌then◌else◌, nat_eq, codes, Option, None, Some, Result, Ok, Err}
+use Rattle.std.specs.Prelude.{
+  ◌≡◌,
+  ◌+◌,
+  ℕ,
+  Bool,
+  true,
+  false,
+  IsTrue,
+  List,
+  [],
+  ◌∷◌,
+  ◌++◌,
+  ◌||◌,
+  length,
+  take,
+  if◌then◌else◌,
+  nat_eq,
+  codes,
+  Option,
+  None,
+  Some,
+  Result,
+  Ok,
+  Err,
+}
 use Rattle.adjust.specs.Command.{command}
 use Rattle.adjust.specs.Texts.{check_text_of, fault_text_of, help_text_of, listen_text}
 use Rattle.adjust.specs.declared.types.Adjustments.{Adjustments}
@@ -58,7 +82,8 @@ addresses_or one [] = one ∷ []
 addresses_or one (listen ∷ rest) = listen ∷ rest
 
 abbrev pub addresses_of : Adjustments → List Listen
-addresses_of options = addresses_or (record { host = options.host; port = options.port }) options.listen
+addresses_of options = addresses_or (record { host = options.host; port = options.port })
+    options.listen
 
 abbrev pub listen_by : Reading → List Listen
 listen_by (Ok (command.Serve options app)) = addresses_of options

@@ -30,8 +30,10 @@ pub(crate) fn serve<W: Wait, N: Net, P: Spills, A: App<P::Spill>>(
         (HasBroken A.Run.faults)
         (eyes_of N.Link.Link)
         (P.faults spills.old) (P.faults spills.new) (N.state net.old) (N.state net.new) }
-    ensures ends { IsTrue N.tells → ServeEnds result settings.now.serve_limit 0 (N.state net.old) (N.state net.new) }
-    ensures limited { IsTrue N.tells → KeepsLimit settings.now.serve_limit (N.state net.old) (N.state net.new) }
+    ensures ends { IsTrue N.tells → ServeEnds result settings.now.serve_limit 0 (N.state net.old)
+        (N.state net.new) }
+    ensures limited { IsTrue N.tells → KeepsLimit settings.now.serve_limit (N.state net.old)
+        (N.state net.new) }
     ensures cause { ServeCause result (N.poll_faults net.old) (N.poll_faults net.new) }
     ensures bind { N.bind_faults net.new ≡ N.bind_faults net.old }
     ensures plan { N.plan net.new ≡ N.plan net.old }

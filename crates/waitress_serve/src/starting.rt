@@ -8,10 +8,40 @@ ghost use Rattle.poll_loop.specs.Connections.{HasBroken};
 ghost use Rattle.poll_loop.specs.Entries.{EntryHolds};
 ghost use Rattle.poll_loop.specs.Seat.{eyes_of};
 ghost use Rattle.waitress_serve.specs.Completeness.{IsAnswered, IsBrief, IsStill};
-ghost use Rattle.waitress_serve.specs.Conclusions.{BindCount, Concludes, DoneAdds, DoneStops, FailsUnstopped, IsDownBy, IsOfPrinting, IsOfServing, NetLeaves, OutCount, OutLeaves, PollCount, Ran};
-ghost use Rattle.waitress_serve.specs.Headline.{Added, KeepsLimit, RetiresGiven, SettlesSpills, ShutLast, grounds};
+ghost use Rattle.waitress_serve.specs.Conclusions.{
+  BindCount,
+  Concludes,
+  DoneAdds,
+  DoneStops,
+  FailsUnstopped,
+  IsDownBy,
+  IsOfPrinting,
+  IsOfServing,
+  NetLeaves,
+  OutCount,
+  OutLeaves,
+  PollCount,
+  Ran,
+};
+ghost use Rattle.waitress_serve.specs.Headline.{
+  Added,
+  KeepsLimit,
+  RetiresGiven,
+  SettlesSpills,
+  ShutLast,
+  grounds,
+};
 ghost use Rattle.waitress_serve.specs.Owed.{owed_by, service_for, service_with};
-ghost use Rattle.waitress_serve.specs.Status.{addresses_of, limit_by, listen_by, printed, prints, serves, serving_lines, timeout_by};
+ghost use Rattle.waitress_serve.specs.Status.{
+  addresses_of,
+  limit_by,
+  listen_by,
+  printed,
+  prints,
+  serves,
+  serving_lines,
+  timeout_by,
+};
 
 use crate::conclusion::Conclusion;
 use crate::printing::{check, lines_of};
@@ -46,7 +76,8 @@ fn start<W: Wait, N: Net, P: Spills, C: Sink, A: App<P::Spill> + Drop>(
         (N.state net.old) (N.state net.new) }
     ensures stops { IsTrue N.tells →
         DoneStops options.serve_limit result (N.state net.old) (N.state net.new) }
-    ensures limited { IsTrue N.tells → KeepsLimit options.serve_limit (N.state net.old) (N.state net.new) }
+    ensures limited { IsTrue N.tells → KeepsLimit options.serve_limit (N.state net.old)
+        (N.state net.new) }
     ensures plan { N.plan net.new ≡ N.plan net.old }
     ensures spills { P.faults spills.old ≤ P.faults spills.new }
     ensures outs { OutCount result (C.faults out.old) (C.faults out.new) }
@@ -100,8 +131,10 @@ fn carry_out<W: Wait, N: Net, P: Spills, C: Sink>(
     ensures binds { BindCount result (N.bind_faults net.old) (N.bind_faults net.new) }
     ensures polls { PollCount result (N.poll_faults net.old) (N.poll_faults net.new) }
     ensures idle { serves (ok command) ≡ false →
-        (N.bind_faults net.new ≡ N.bind_faults net.old) × (N.poll_faults net.new ≡ N.poll_faults net.old) }
-    ensures idle_net { IsTrue N.tells → serves (ok command) ≡ false → N.state net.new ≡ N.state net.old }
+        (N.bind_faults net.new ≡ N.bind_faults net.old) ×
+        (N.poll_faults net.new ≡ N.poll_faults net.old) }
+    ensures idle_net { IsTrue N.tells → serves (ok command) ≡ false →
+        N.state net.new ≡ N.state net.old }
     ensures ran { IsTrue N.tells → Ran
         (service_for (telling N.Link.tells P.Spill.tells P.Spill.tells) (ok command)) ⊥
         (eyes_of N.Link.Link)
@@ -109,7 +142,8 @@ fn carry_out<W: Wait, N: Net, P: Spills, C: Sink>(
         (N.state net.old) (N.state net.new) }
     ensures stops { IsTrue N.tells → IsTrue (serves (ok command)) →
         DoneStops (limit_by (ok command)) result (N.state net.old) (N.state net.new) }
-    ensures limited { IsTrue N.tells → KeepsLimit (limit_by (ok command)) (N.state net.old) (N.state net.new) }
+    ensures limited { IsTrue N.tells → KeepsLimit (limit_by (ok command)) (N.state net.old)
+        (N.state net.new) }
     ensures plan { N.plan net.new ≡ N.plan net.old }
     ensures spills { P.faults spills.old ≤ P.faults spills.new }
     ensures outs { OutCount result (C.faults out.old) (C.faults out.new) }
@@ -144,19 +178,22 @@ pub(crate) fn run_words<W: Wait, N: Net, P: Spills, C: Sink>(
     ensures polls { PollCount result (N.poll_faults net.old) (N.poll_faults net.new) }
     ensures net { IsTrue N.tells → NetLeaves result (N.state net.old) (N.state net.new) }
     ensures stops { IsTrue N.tells → IsTrue (serves (command (words_of words.now))) →
-        DoneStops (limit_by (command (words_of words.now))) result (N.state net.old) (N.state net.new) }
+        DoneStops (limit_by (command (words_of words.now))) result (N.state net.old)
+        (N.state net.new) }
     ensures limited { IsTrue N.tells →
         KeepsLimit (limit_by (command (words_of words.now))) (N.state net.old) (N.state net.new) }
 
     // Where nobody is to be served, nothing is done to the net.
     ensures idle { serves (command (words_of words.now)) ≡ false →
-        (N.bind_faults net.new ≡ N.bind_faults net.old) × (N.poll_faults net.new ≡ N.poll_faults net.old) }
+        (N.bind_faults net.new ≡ N.bind_faults net.old) ×
+        (N.poll_faults net.new ≡ N.poll_faults net.old) }
     ensures idle_net { IsTrue N.tells → serves (command (words_of words.now)) ≡ false →
         N.state net.new ≡ N.state net.old }
 
     // What was retired, what was given and what stays of the net.
     ensures headline { IsTrue N.tells → Added
-        (EntryHolds (service_for (telling N.Link.tells P.Spill.tells P.Spill.tells) (command (words_of words.now)))
+        (EntryHolds (service_for (telling N.Link.tells P.Spill.tells P.Spill.tells)
+        (command (words_of words.now)))
         (grounds (IsDownBy result (N.state net.old) (N.state net.new)) ⊥)
         N.Link.state N.Link.faults (N.state net.new))
         (N.state net.old).closed (N.state net.new).closed }
@@ -172,10 +209,12 @@ pub(crate) fn run_words<W: Wait, N: Net, P: Spills, C: Sink>(
     ensures spills { P.faults spills.old ≤ P.faults spills.new }
     ensures settled { IsTrue N.tells → SettlesSpills (P.faults spills.old) (P.faults spills.new)
         (N.state net.old).closed (N.state net.new).closed }
-    ensures complete { IsTrue N.tells → IsTrue N.Link.tells → IsTrue P.Spill.tells → IsTrue (N.state net.old).quiet →
+    ensures complete { IsTrue N.tells → IsTrue N.Link.tells → IsTrue P.Spill.tells →
+        IsTrue (N.state net.old).quiet →
         IsStill (P.faults spills.old) (P.faults spills.new) →
         IsBrief (timeout_by (command (words_of words.now))) (N.state net.new) →
-        DoneAdds (IsAnswered N.Link.state N.Link.faults (owed_by (command (words_of words.now)))) result
+        DoneAdds (IsAnswered N.Link.state N.Link.faults (owed_by (command (words_of words.now))))
+        result
         (N.state net.old).closed (N.state net.new).closed }
 
     // What is printed stands there before anybody is served.

@@ -48,7 +48,8 @@ pub(crate) fn report<C: Sink>(err: &mut C, fault: Fault) -> u8
     ensures later { C.faults err.old ≤ C.faults err.new }
     ensures status { Written (status_of fault) result (C.faults err.old) (C.faults err.new)
         ⊎ Unwritten result (C.faults err.old) (C.faults err.new) }
-    ensures text { (asked : Reading) → IsTrue (may_report asked (status_of fault)) → IsTrue C.tells →
+    ensures text { (asked : Reading) → IsTrue (may_report asked (status_of fault)) →
+        IsTrue C.tells →
         Writes asked result (C.written err.old) (C.written err.new) }
 {
     match err.write(fault.text()) {

@@ -7,9 +7,30 @@ ghost use Rattle.outside.specs.Causes.{Rose};
 ghost use Rattle.poll_loop.specs.Accounts.{Stops};
 ghost use Rattle.poll_loop.specs.Entries.{EntryHolds};
 ghost use Rattle.waitress_serve.specs.Completeness.{Completes, IsBrief, IsStill};
-ghost use Rattle.waitress_serve.specs.Headline.{Added, KeepsLimit, RetiresGiven, SettlesSpills, ShutLast, WentDown, grounds};
+ghost use Rattle.waitress_serve.specs.Headline.{
+  Added,
+  KeepsLimit,
+  RetiresGiven,
+  SettlesSpills,
+  ShutLast,
+  WentDown,
+  grounds,
+};
 ghost use Rattle.waitress_serve.specs.Owed.{is_told, owed, service};
-ghost use Rattle.waitress_serve.specs.Status.{MeetsLimit, WritesPart, WritesSome, is_faulty, is_unbuilt, limit_by, listen_by, printed, prints, serves, status_text, timeout_by};
+ghost use Rattle.waitress_serve.specs.Status.{
+  MeetsLimit,
+  WritesPart,
+  WritesSome,
+  is_faulty,
+  is_unbuilt,
+  limit_by,
+  listen_by,
+  printed,
+  prints,
+  serves,
+  status_text,
+  timeout_by,
+};
 
 use crate::conclusion::Conclusion;
 use crate::starting::run_words;
@@ -31,12 +52,15 @@ pub fn run<W: Threads + Wait + Sync, N: Net, T: Tree, P: Spills, C: Sink, G: Tri
     err: &mut C,
     trigger: &G,
 ) -> u8
-    // Each connection was sent a prefix of what it is owed for what arrived, and its end has its cause.
+    // Each connection was sent a prefix of what it is owed for what arrived, and its end has its
+    // cause.
     // No run of the one application breaks.
     ensures headline { IsTrue N.tells → Added
-        (EntryHolds (service (telling N.Link.tells P.Spill.tells (is_told (words_of words.now) P.Spill.tells T.tells))
+        (EntryHolds (service (telling N.Link.tells P.Spill.tells
+        (is_told (words_of words.now) P.Spill.tells T.tells))
         (words_of words.now) (T.files tree.old))
-        (grounds (WentDown result (N.state net.old) (N.state net.new) (C.faults err.old) (C.faults err.new)) ⊥)
+        (grounds (WentDown result (N.state net.old) (N.state net.new) (C.faults err.old)
+        (C.faults err.new)) ⊥)
         N.Link.state N.Link.faults (N.state net.new))
         (N.state net.old).closed (N.state net.new).closed }
 
@@ -44,7 +68,8 @@ pub fn run<W: Threads + Wait + Sync, N: Net, T: Tree, P: Spills, C: Sink, G: Tri
     ensures shut_last { IsTrue N.tells → ((N.state net.new).closed ≡ (N.state net.old).closed)
         ⊎ ShutLast (N.state net.old) (N.state net.new) }
 
-    // No more came than are to be served. Each that came was retired, and none that was open before.
+    // No more came than are to be served. Each that came was retired, and none that was open
+    // before.
     ensures limited { IsTrue N.tells →
         KeepsLimit (limit_by (command (words_of words.now))) (N.state net.old) (N.state net.new) }
     ensures given { IsTrue N.tells → RetiresGiven N.Link.plan (N.state net.old) (N.state net.new) }
@@ -60,19 +85,23 @@ pub fn run<W: Threads + Wait + Sync, N: Net, T: Tree, P: Spills, C: Sink, G: Tri
     ensures settled { IsTrue N.tells → SettlesSpills (P.faults spills.old) (P.faults spills.new)
         (N.state net.old).closed (N.state net.new).closed }
 
-    // Over a quiet net, where all tells, no count of faults rises and no longer goes by than the timeout, the
-    // status is 0 or 5; with 0 each connection whose link didn't fail was answered whole, or refused memory.
+    // Over a quiet net, where all tells, no count of faults rises and no longer goes by than the
+    // timeout, the
+    // status is 0 or 5; with 0 each connection whose link didn't fail was answered whole, or
+    // refused memory.
     ensures complete { IsTrue N.tells → IsTrue N.Link.tells → IsTrue P.Spill.tells →
         IsTrue (serves (command (words_of words.now))) → IsTrue (N.state net.old).quiet →
         IsBrief (timeout_by (command (words_of words.now))) (N.state net.new) →
         IsStill (N.bind_faults net.old) (N.bind_faults net.new) →
         IsStill (N.poll_faults net.old) (N.poll_faults net.new) →
         IsStill (P.faults spills.old) (P.faults spills.new) →
-        IsStill (C.faults out.old) (C.faults out.new) → IsStill (C.faults err.old) (C.faults err.new) →
+        IsStill (C.faults out.old) (C.faults out.new) → IsStill (C.faults err.old)
+        (C.faults err.new) →
         Completes N.Link.state N.Link.faults (owed (words_of words.now) (T.files tree.old)) result
         (N.state net.old).closed (N.state net.new).closed }
 
-    // 0: the last poll told to stop, or so many connections came and were retired as the serve limit says; or
+    // 0: the last poll told to stop, or so many connections came and were retired as the serve
+    // limit says; or
     // all was printed.
     ensures zero { result ≡ 0 →
         IsTrue (serves (command (words_of words.now)) || prints (command (words_of words.now))) }
@@ -90,7 +119,8 @@ pub fn run<W: Threads + Wait + Sync, N: Net, T: Tree, P: Spills, C: Sink, G: Tri
     ensures unbuilt { IsTrue (is_unbuilt (command (words_of words.now))) →
         (result ≡ 2) ⊎ (result ≡ 5) ⊎ ((result ≡ 6) × Rose (C.faults err.old) (C.faults err.new)) }
 
-    // 3, 4 and 6: a bind, a poll or accept, or a sink failed. 5: want of memory. Where a poll or accept failed,
+    // 3, 4 and 6: a bind, a poll or accept, or a sink failed. 5: want of memory. Where a poll or
+    // accept failed,
     // none told to stop.
     ensures three { result ≡ 3 → Rose (N.bind_faults net.old) (N.bind_faults net.new) }
     ensures four { result ≡ 4 → Rose (N.poll_faults net.old) (N.poll_faults net.new) }
@@ -111,12 +141,15 @@ pub fn run<W: Threads + Wait + Sync, N: Net, T: Tree, P: Spills, C: Sink, G: Tri
 
     // The causes come in this order, and nothing behind one: the words, the bind, the line.
     ensures idle { serves (command (words_of words.now)) ≡ false →
-        (N.bind_faults net.new ≡ N.bind_faults net.old) × (N.poll_faults net.new ≡ N.poll_faults net.old) }
+        (N.bind_faults net.new ≡ N.bind_faults net.old) ×
+        (N.poll_faults net.new ≡ N.poll_faults net.old) }
     ensures idle_net { IsTrue N.tells → serves (command (words_of words.now)) ≡ false →
         N.state net.new ≡ N.state net.old }
-    ensures silent { IsTrue (is_faulty (command (words_of words.now)) || is_unbuilt (command (words_of words.now))) →
+    ensures silent { IsTrue (is_faulty (command (words_of words.now)) || is_unbuilt
+        (command (words_of words.now))) →
         C.faults out.new ≡ C.faults out.old }
-    ensures unbound { IsTrue N.tells → (result ≡ 1) ⊎ (result ≡ 2) ⊎ (result ≡ 3) → N.state net.new ≡ N.state net.old }
+    ensures unbound { IsTrue N.tells → (result ≡ 1) ⊎ (result ≡ 2) ⊎ (result ≡ 3) →
+        N.state net.new ≡ N.state net.old }
     ensures unbound_net { IsTrue N.tells → N.bind_faults net.old < N.bind_faults net.new →
         N.state net.new ≡ N.state net.old }
     ensures unbound_poll { N.bind_faults net.old < N.bind_faults net.new →

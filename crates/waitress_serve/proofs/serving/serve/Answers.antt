@@ -18,7 +18,8 @@ use Rattle.waitress_serve.specs.Conclusions.{ServedAll}
 use Rattle.waitress_serve.proofs.serving.serve.Goals as goal
 
 -- no server could be made
-unserved : {L P : Type 0} (service : Service) (broken : Type 0) (e : Eyes L P) (count : ℕ) (net : NetState L P) → ServedAll (Err fault.NoMemory) service broken e count count net net
+unserved : {L P : Type 0} (service : Service) (broken : Type 0) (e : Eyes L P) (count : ℕ)
+    (net : NetState L P) → ServedAll (Err fault.NoMemory) service broken e count count net net
 unserved {L} service broken e count net = record {
   fallen = 0;
   who = [];
@@ -45,24 +46,40 @@ unserved {L} service broken e count net = record {
 }
 
 -- a server without connections served
-served_all : {L P A R : Type 0} (result : Result Going ServeFault) (tells : Telling) (script : A → Script) (broken : Type 0) (e : Eyes L P) (before now : ℕ) (old new : NetState L P)
+served_all : {L P A R : Type 0} (result : Result Going ServeFault) (tells : Telling)
+    (script : A → Script) (broken : Type 0) (e : Eyes L P) (before now : ℕ) (old new : NetState L P)
     (fresh ended : Serving L A R) (app : A) (settings : Settings) →
-    fresh ≡ record { app = app; settings = settings; open' = []; accepted = 0; retired = 0; checked = None; fallen = [] } →
-    Served result (EntryHolds (service_by tells script fresh.settings fresh.app) (going_on broken) e.state e.faults)
-    (EntryHolds (service_by tells script fresh.settings fresh.app) (shutting_down broken) e.state e.faults) e.plan (booked e old before fresh) (booked e new now ended) →
+    fresh ≡ record {
+      app = app;
+      settings = settings;
+      open' = [];
+      accepted = 0;
+      retired = 0;
+      checked = None;
+      fallen = [];
+    } →
+    Served result (EntryHolds (service_by tells script fresh.settings fresh.app) (going_on broken)
+    e.state e.faults)
+    (EntryHolds (service_by tells script fresh.settings fresh.app) (shutting_down broken) e.state
+    e.faults) e.plan (booked e old before fresh) (booked e new now ended) →
     ServedAll result (service_by tells script settings app) broken e before now old new
-served_all result tells script broken e before now old new fresh ended app settings begins s = record {
-  fallen = length ended.fallen;
-  who = who e ended;
-  served = subst (λ f. Served result (EntryHolds (service_by tells script f.settings f.app) (going_on broken) e.state e.faults)
-      (EntryHolds (service_by tells script f.settings f.app) (shutting_down broken) e.state e.faults) e.plan (booked e old before f) (booked e new now ended)) begins s;
-}
+served_all result tells script broken e before now old new fresh ended app settings begins s =
+    record {
+      fallen = length ended.fallen;
+      who = who e ended;
+      served = subst (λ f. Served result (EntryHolds (service_by tells script f.settings f.app)
+          (going_on broken) e.state e.faults)
+          (EntryHolds (service_by tells script f.settings f.app) (shutting_down broken) e.state
+          e.faults) e.plan (booked e old before f) (booked e new now ended)) begins s;
+    }
 
 pub returns-clause-served : goal.returns-clause-served
 returns-clause-served g c = λ told.
-    served_all c.serve-ended.result (telling g.N.Link.Link.tells g.P.Spill.Spill.tells g.A.App.tells) g.A.App.script (HasBroken g.A.Run.AppRun.faults)
+    served_all c.serve-ended.result (telling g.N.Link.Link.tells g.P.Spill.Spill.tells
+    g.A.App.tells) g.A.App.script (HasBroken g.A.Run.AppRun.faults)
     (eyes_of g.N.Link.Link) _ _ (g.N.Net.state c.args.net.now) (g.N.Net.state c.serve-ended.new.net)
-    (serving c.in-Ok.server) (serving c.serve-ended.new.self) c.args.app.now c.args.settings.now c.in-Ok.ensures.begins (c.serve-ended.ensures.served told)
+    (serving c.in-Ok.server) (serving c.serve-ended.new.self) c.args.app.now c.args.settings.now
+    c.in-Ok.ensures.begins (c.serve-ended.ensures.served told)
 
 pub returns-in_default-clause-served : goal.returns-in_default-clause-served
 returns-in_default-clause-served g c = λ told. unserved _ _ _ _ _

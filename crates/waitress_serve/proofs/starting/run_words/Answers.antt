@@ -4,21 +4,30 @@ use Rattle.adjust.specs.declared.types.Command.{Command}
 use Rattle.adjust.specs.declared.types.UsageFault.{UsageFault}
 use Rattle.adjust.specs.declared.types.UsageFault.TheVariants.{NoMemory}
 use Rattle.waitress_serve.specs.Status.{Reading}
-use Rattle.waitress_serve.proofs.Concluded.{keeps_same, nobody_given, nothing_added, nothing_settled, read_complete}
+use Rattle.waitress_serve.proofs.Concluded.{
+  keeps_same,
+  nobody_given,
+  nothing_added,
+  nothing_settled,
+  read_complete,
+}
 use Rattle.waitress_serve.proofs.starting.run_words.Goals as goal
 
 -- a fault that isn't want of memory is that of the words
-is_fault : (asked : Reading) (fault : UsageFault) → (fault ≡ NoMemory → ⊥) → IsOrLacksMemory asked (Err fault) → asked ≡ Err fault
+is_fault : (asked : Reading) (fault : UsageFault) → (fault ≡ NoMemory → ⊥) →
+    IsOrLacksMemory asked (Err fault) → asked ≡ Err fault
 is_fault asked fault other h =
     elim h [ inl same ↦ sym same | inr lacks ↦ absurd (other cc) ]
 
-is_command : (asked : Reading) (command : Command) → IsOrLacksMemory asked (Ok command) → asked ≡ Ok command
+is_command : (asked : Reading) (command : Command) → IsOrLacksMemory asked (Ok command) →
+    asked ≡ Ok command
 is_command asked command h =
     elim h [ inl same ↦ sym same | inr lacks ↦ cc ]
 
 pub returns-in-Ok-clause-complete : goal.returns-in-Ok-clause-complete
 returns-in-Ok-clause-complete g c = λ told links spills quiet.
-    read_complete _ _ _ _ (is_command _ c.in-Ok.command c.in-Ok.ensures.command) _ _ _ _ _ (g.N.Net.state c.args.net.now) _ (c.carry_out.ensures.ran told) links spills quiet
+    read_complete _ _ _ _ (is_command _ c.in-Ok.command c.in-Ok.ensures.command) _ _ _ _ _
+    (g.N.Net.state c.args.net.now) _ (c.carry_out.ensures.ran told) links spills quiet
 
 pub returns-in-NoMemory-clause-given : goal.returns-in-NoMemory-clause-given
 returns-in-NoMemory-clause-given g c = λ told. nobody_given _ _ _ refl refl

@@ -4,15 +4,26 @@ use Rattle.outside.specs.Net.{NetState}
 use Rattle.outside.specs.declared.types.Listen.{Listen}
 use Rattle.waitress_serve.specs.Conclusions.{PollCount, conclusion_of}
 use Rattle.waitress_serve.specs.Status.{WritesPart, addresses_of, serving_lines}
-use Rattle.waitress_serve.proofs.Concluded.{bind_count, is_of_serving, out_count, out_leaves, poll_count, ran_none, started_ran, started_stops}
+use Rattle.waitress_serve.proofs.Concluded.{
+  bind_count,
+  is_of_serving,
+  out_count,
+  out_leaves,
+  poll_count,
+  ran_none,
+  started_ran,
+  started_stops,
+}
 use Rattle.waitress_serve.proofs.TextLemmas.{part_written}
 use Rattle.waitress_serve.proofs.starting.start.Goals as goal
 
 pub returns-in_default-clause-ran : goal.returns-in_default-clause-ran
-returns-in_default-clause-ran g c = λ told. ran_none _ _ _ _ _ _ _ _ _ (g.N.Net.state c.args.net.now).bound refl refl tt
+returns-in_default-clause-ran g c = λ told. ran_none _ _ _ _ _ _ _ _ _
+    (g.N.Net.state c.args.net.now).bound refl refl tt
 
 pub returns-in_default-lines_of-clause-ran : goal.returns-in_default-lines_of-clause-ran
-returns-in_default-lines_of-clause-ran g c = λ told. ran_none _ _ _ _ _ _ _ _ _ (g.N.Net.state c.args.net.now).bound refl refl tt
+returns-in_default-lines_of-clause-ran g c = λ told. ran_none _ _ _ _ _ _ _ _ _
+    (g.N.Net.state c.args.net.now).bound refl refl tt
 
 pub returns-then-is_err-clause-ran : goal.returns-then-is_err-clause-ran
 returns-then-is_err-clause-ran g c = λ told.
@@ -21,42 +32,65 @@ returns-then-is_err-clause-ran g c = λ told.
 
 pub returns-then-is_err-2-clause-ran : goal.returns-then-is_err-2-clause-ran
 returns-then-is_err-2-clause-ran g c = λ told.
-    let bound : g.N.Net.state c.bind.new.self ≡ record (g.N.Net.state c.args.net.now) { bound = Some c.as_slice-2.result.now } = search rules in
-    ran_none _ _ _ _ _ _ _ _ _ _ bound refl (record { polls = ap (λ s. s.polls) bound; closed = ap (λ s. s.closed) bound })
+    let bound : g.N.Net.state c.bind.new.self ≡ record (g.N.Net.state c.args.net.now)
+    { bound = Some c.as_slice-2.result.now } = search rules in
+    ran_none _ _ _ _ _ _ _ _ _ _ bound refl (record {
+      polls = ap (λ s. s.polls) bound;
+      closed =
+          ap (λ s. s.closed) bound;
+    })
 
 pub returns-then-is_err-2-clause-text : goal.returns-then-is_err-2-clause-text
 returns-then-is_err-2-clause-text g c = λ told.
-    let text : c.as_slice-3.result.now ≡ serving_lines (addresses_of c.args.options) = c.as_slice-3.ensures ∙ (c.in-Ok-lines_of.ensures ∙ ap (λ l. serving_lines l) (c.as_slice.ensures ∙ c.in-Ok.ensures.addresses)) in
-    subst (λ t. WritesPart t (g.C.Sink.written c.args.out.now) (g.C.Sink.written c.write.new.self)) text (part_written _ _ _ c.write.result (c.write.ensures.written told) (c.write.ensures.broken told))
+    let text : c.as_slice-3.result.now ≡ serving_lines (addresses_of c.args.options) =
+    c.as_slice-3.ensures ∙ (c.in-Ok-lines_of.ensures ∙
+    ap (λ l. serving_lines l) (c.as_slice.ensures ∙ c.in-Ok.ensures.addresses)) in
+    subst (λ t. WritesPart t (g.C.Sink.written c.args.out.now) (g.C.Sink.written c.write.new.self))
+    text (part_written _ _ _ c.write.result (c.write.ensures.written told)
+    (c.write.ensures.broken told))
 
 pub returns-clause-why : goal.returns-clause-why
 returns-clause-why g c = rw c.conclude.ensures (is_of_serving c.serve.result)
 
 pub returns-clause-binds : goal.returns-clause-binds
 returns-clause-binds g c =
-    let same : g.N.Net.bind_faults c.serve.new.net ≡ g.N.Net.bind_faults c.args.net.now = search rules in
+    let same : g.N.Net.bind_faults c.serve.new.net ≡ g.N.Net.bind_faults c.args.net.now =
+    search rules in
     rw c.conclude.ensures (bind_count c.serve.result _ _ same)
 
 pub returns-clause-polls : goal.returns-clause-polls
 returns-clause-polls g c =
-    let others : g.N.Net.poll_faults c.bind.new.self ≡ g.N.Net.poll_faults c.args.net.now = search rules in
-    rw c.conclude.ensures (subst (λ before. PollCount (conclusion_of c.serve.result) before (g.N.Net.poll_faults c.serve.new.net)) others (poll_count c.serve.result _ _ c.serve.ensures.cause))
+    let others : g.N.Net.poll_faults c.bind.new.self ≡ g.N.Net.poll_faults c.args.net.now =
+    search rules in
+    rw c.conclude.ensures (subst (λ before. PollCount (conclusion_of c.serve.result) before
+    (g.N.Net.poll_faults c.serve.new.net)) others (poll_count c.serve.result _ _
+    c.serve.ensures.cause))
 
 -- the net behind the bind
-bound_at : {L P : Type 0} (old mid : NetState L P) (one other listen : List Listen) → mid ≡ record old { bound = Some one } → one ≡ other → other ≡ listen →
+bound_at : {L P : Type 0} (old mid : NetState L P) (one other listen : List Listen) →
+    mid ≡ record old { bound = Some one } → one ≡ other → other ≡ listen →
     mid ≡ record old { bound = Some listen }
-bound_at old mid one other listen is same by = is ∙ ap (λ l. record old { bound = Some l }) (same ∙ by)
+bound_at old mid one other listen is same by = is ∙ ap (λ l. record old { bound = Some l })
+    (same ∙ by)
 
 pub returns-clause-ran : goal.returns-clause-ran
 returns-clause-ran g c = λ told.
-    let bound : g.N.Net.state c.bind.new.self ≡ record (g.N.Net.state c.args.net.now) { bound = Some c.as_slice-2.result.now } = search rules in
-    started_ran _ g.A.App.script c.args.app c.args.options _ _ _ _ _ (g.N.Net.state c.args.net.now) _ _ (bound_at (g.N.Net.state c.args.net.now) _ _ _ _ bound c.as_slice-2.ensures c.in-Ok.ensures.addresses) c.serve.result _ c.conclude.ensures c.in-Ok.settings c.in-Ok.ensures.settings
+    let bound : g.N.Net.state c.bind.new.self ≡ record (g.N.Net.state c.args.net.now)
+    { bound = Some c.as_slice-2.result.now } = search rules in
+    started_ran _ g.A.App.script c.args.app c.args.options _ _ _ _ _ (g.N.Net.state c.args.net.now)
+    _ _ (bound_at (g.N.Net.state c.args.net.now) _ _ _ _ bound c.as_slice-2.ensures
+    c.in-Ok.ensures.addresses) c.serve.result _ c.conclude.ensures c.in-Ok.settings
+    c.in-Ok.ensures.settings
     (c.serve.ensures.served told) (c.serve.ensures.ends told)
 
 pub returns-clause-stops : goal.returns-clause-stops
 returns-clause-stops g c = λ told.
-    let bound : g.N.Net.state c.bind.new.self ≡ record (g.N.Net.state c.args.net.now) { bound = Some c.as_slice-2.result.now } = search rules in
-    started_stops _ g.A.App.script c.args.app c.args.options _ _ _ _ _ (g.N.Net.state c.args.net.now) _ _ (bound_at (g.N.Net.state c.args.net.now) _ _ _ _ bound c.as_slice-2.ensures c.in-Ok.ensures.addresses) c.serve.result _ c.conclude.ensures c.in-Ok.settings c.in-Ok.ensures.settings
+    let bound : g.N.Net.state c.bind.new.self ≡ record (g.N.Net.state c.args.net.now)
+    { bound = Some c.as_slice-2.result.now } = search rules in
+    started_stops _ g.A.App.script c.args.app c.args.options _ _ _ _ _
+    (g.N.Net.state c.args.net.now) _ _ (bound_at (g.N.Net.state c.args.net.now) _ _ _ _ bound
+    c.as_slice-2.ensures c.in-Ok.ensures.addresses) c.serve.result _ c.conclude.ensures
+    c.in-Ok.settings c.in-Ok.ensures.settings
     (c.serve.ensures.served told) (c.serve.ensures.ends told)
 
 pub returns-clause-outs : goal.returns-clause-outs
@@ -66,5 +100,6 @@ returns-clause-outs g c =
 
 pub returns-clause-text : goal.returns-clause-text
 returns-clause-text g c = λ told.
-    let whole : g.C.Sink.written c.write.new.self ≡ g.C.Sink.written c.args.out.now ++ serving_lines (addresses_of c.args.options) = search rules in
+    let whole : g.C.Sink.written c.write.new.self ≡ g.C.Sink.written c.args.out.now ++ serving_lines
+    (addresses_of c.args.options) = search rules in
     rw c.conclude.ensures (out_leaves _ c.serve.result _ _ whole)
