@@ -45,6 +45,16 @@ fn show(text: &mut Vec<u8>, unit: Unit<MemSpill>) -> Option<()> {
     text.push(b',').ok()
 }
 
+// Without clauses, so that what is said of `Stream::feed` ends here.
+fn fed(
+    alloc: Global,
+    stream: &mut Stream<MemSpill>,
+    spills: &mut MemSpills,
+    piece: &[u8],
+) -> Option<Vec<Unit<MemSpill>>> {
+    stream.feed(alloc, 7, piece, spills).ok()
+}
+
 // Feeds a piece, and shows what is asked for.
 fn feed(
     alloc: Global,
@@ -53,7 +63,7 @@ fn feed(
     piece: &[u8],
     text: &mut Vec<u8>,
 ) -> Option<()> {
-    for unit in stream.feed(alloc, 7, piece, spills).ok()? {
+    for unit in fed(alloc, stream, spills, piece)? {
         show(text, unit)?;
     }
     Some(())
