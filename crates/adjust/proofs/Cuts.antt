@@ -1,5 +1,26 @@
 -- The parts of a text that is cut at each separator.
-use Rattle.std.proofs.Common.{◌≡◌, ◌<◌, ◌+◌, ◌-◌, ◌∙◌, ℕ, Bool, List, [], ◌∷◌, length, take, drop, None, Some, refl, ap, sym, cond, arith}
+use Rattle.std.proofs.Common.{
+  ◌≡◌,
+  ◌<◌,
+  ◌+◌,
+  ◌-◌,
+  ◌∙◌,
+  ℕ,
+  Bool,
+  List,
+  [],
+  ◌∷◌,
+  length,
+  take,
+  drop,
+  None,
+  Some,
+  refl,
+  ap,
+  sym,
+  cond,
+  arith,
+}
 use Rattle.std.specs.Prelude.{position}
 use Rattle.std.specs.List.{filter, slice_split}
 use Rattle.std.proofs.lemmas.Bool.{lt-ltb}
@@ -10,12 +31,15 @@ pub parts-nil : (commas : Bool) → parts commas [] ≡ []
 unfolding parts
 parts-nil commas = refl
 
-pub parts_cut : (commas : Bool) (text : List ℕ) (k : ℕ) → position (is_separator commas) text ≡ Some k →
-    parts commas text ≡ onto_parts (take k text) (parts commas (take (length text - (k + 1)) (drop (k + 1) text)))
+pub parts_cut : (commas : Bool) (text : List ℕ) (k : ℕ) →
+    position (is_separator commas) text ≡ Some k →
+    parts commas text ≡ onto_parts (take k text) (parts commas
+    (take (length text - (k + 1)) (drop (k + 1) text)))
 unfolding parts
 parts_cut commas text k e =
     ap (filter has_bytes) (cut_some (is_separator commas) text k e)
-    ∙ ap (λ xs. onto_parts (take k text) (filter has_bytes (slice_split (is_separator commas) xs))) (sym (rest_is text (k + 1)))
+    ∙ ap (λ xs. onto_parts (take k text) (filter has_bytes (slice_split (is_separator commas) xs)))
+    (sym (rest_is text (k + 1)))
 
 pub parts_whole : (commas : Bool) (text : List ℕ) → position (is_separator commas) text ≡ None →
     parts commas text ≡ onto_parts text (parts commas [])
@@ -26,9 +50,11 @@ pub parts_none : (commas : Bool) (text : List ℕ) → length text ≡ 0 → par
 parts_none commas [] e = parts-nil commas
 parts_none commas (b ∷ bs) e = absurd (omega arith)
 
-pub onto_some : (part : List ℕ) (rest : List (List ℕ)) → 0 < length part → onto_parts part rest ≡ part ∷ rest
+pub onto_some : (part : List ℕ) (rest : List (List ℕ)) → 0 < length part →
+    onto_parts part rest ≡ part ∷ rest
 onto_some part rest some = ap (λ t. cond t (part ∷ rest) rest) (lt-ltb 0 (length part) some)
 
-pub onto_none : (part : List ℕ) (rest : List (List ℕ)) → length part ≡ 0 → onto_parts part rest ≡ rest
+pub onto_none : (part : List ℕ) (rest : List (List ℕ)) → length part ≡ 0 →
+    onto_parts part rest ≡ rest
 onto_none [] rest e = refl
 onto_none (b ∷ bs) rest e = absurd (omega arith)

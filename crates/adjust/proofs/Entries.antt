@@ -1,5 +1,30 @@
 -- Which entry is bad behind some good ones.
-use Rattle.std.proofs.Common.{◌≡◌, ◌<◌, ◌+◌, ◌-◌, ◌∙◌, ℕ, suc, zero, true, false, List, [], ◌∷◌, length, take, None, Some, refl, ap, ap₂, sym, cond, arith, rules}
+use Rattle.std.proofs.Common.{
+  ◌≡◌,
+  ◌<◌,
+  ◌+◌,
+  ◌-◌,
+  ◌∙◌,
+  ℕ,
+  suc,
+  zero,
+  true,
+  false,
+  List,
+  [],
+  ◌∷◌,
+  length,
+  take,
+  None,
+  Some,
+  refl,
+  ap,
+  ap₂,
+  sym,
+  cond,
+  arith,
+  rules,
+}
 use Rattle.std.specs.Prelude.{Option, nat_lt, ◌==◌, ◌||◌}
 use Rattle.std.specs.List.{before_last, prefix_len}
 use Rattle.std.proofs.lemmas.Bool.Decides.{nat_tests}
@@ -11,7 +36,8 @@ bad_by good more size = cond (nat_lt more size || (good + size) == 0) (Some (goo
 
 -- behind so many good entries, with room for more
 abbrev pub bad_behind : ℕ → ℕ → List (List ℕ) → Option ℕ
-bad_behind room good entries = bad_by good (prefix_len is_entry (take room entries)) (length entries)
+bad_behind room good entries = bad_by good (prefix_len is_entry (take room entries))
+    (length entries)
 
 none_in_front : (n : ℕ) → 0 + n ≡ n
 none_in_front n = omega arith
@@ -24,16 +50,19 @@ bad_start entries =
     (ap (λ n. nat_lt more (length entries) || n == 0) (sym (none_in_front (length entries))))
     (ap (λ n. n + 1) (sym (none_in_front more)))
 
-same_test : (good more size : ℕ) → (nat_lt (1 + more) (suc size) || (good + suc size) == 0) ≡ (nat_lt more size || ((good + 1) + size) == 0)
+same_test : (good more size : ℕ) → (nat_lt (1 + more) (suc size) || (good + suc size) == 0) ≡
+    (nat_lt more size || ((good + 1) + size) == 0)
 same_test good more size = grind (arith, nat_tests)
 
 same_number : (good more : ℕ) → good + (1 + more) + 1 ≡ (good + 1) + more + 1
 same_number good more = omega arith
 
 same_bad : (good more size : ℕ) → bad_by good (1 + more) (suc size) ≡ bad_by (good + 1) more size
-same_bad good more size = ap₂ (λ t n. cond t (Some n) None) (same_test good more size) (same_number good more)
+same_bad good more size = ap₂ (λ t n. cond t (Some n) None) (same_test good more size)
+    (same_number good more)
 
-good_step : (room good : ℕ) (e : List ℕ) (es : List (List ℕ)) → is_entry e ≡ true → bad_behind (suc room) good (e ∷ es) ≡ bad_behind room (good + 1) es
+good_step : (room good : ℕ) (e : List ℕ) (es : List (List ℕ)) → is_entry e ≡ true →
+    bad_behind (suc room) good (e ∷ es) ≡ bad_behind room (good + 1) es
 good_step room good e es is =
     ap (λ t. bad_by good (cond t (1 + prefix_len is_entry (take room es)) 0) (suc (length es))) is
     ∙ same_bad good (prefix_len is_entry (take room es)) (length es)
@@ -41,22 +70,30 @@ good_step room good e es is =
 pub bad_good : (good : ℕ) (e : List ℕ) (es : List (List ℕ)) → good < 16 → is_entry e ≡ true →
     bad_behind (16 - good) good (e ∷ es) ≡ bad_behind (16 - (good + 1)) (good + 1) es
 bad_good good e es room is =
-    ap (λ n. bad_behind n good (e ∷ es)) (let h : 16 - good ≡ suc (16 - (good + 1)) = omega arith in h)
+    ap (λ n. bad_behind n good (e ∷ es)) (let h : 16 - good ≡ suc (16 - (good + 1)) =
+    omega arith in h)
     ∙ good_step (16 - (good + 1)) good e es is
 
 no_more : (good size : ℕ) → bad_by good 0 (suc size) ≡ Some (good + 1)
-no_more good size = ap₂ (λ t n. cond t (Some n) None) (let h : (nat_lt 0 (suc size) || (good + suc size) == 0) ≡ true = grind (arith, nat_tests) in h) (let h : good + 0 + 1 ≡ good + 1 = omega arith in h)
+no_more good size = ap₂ (λ t n. cond t (Some n) None) (let h :
+    (nat_lt 0 (suc size) || (good + suc size) == 0) ≡ true = grind (arith, nat_tests) in h)
+    (let h : good + 0 + 1 ≡ good + 1 = omega arith in h)
 
-bad_at : (room good : ℕ) (e : List ℕ) (es : List (List ℕ)) → is_entry e ≡ false → bad_behind room good (e ∷ es) ≡ Some (good + 1)
+bad_at : (room good : ℕ) (e : List ℕ) (es : List (List ℕ)) → is_entry e ≡ false →
+    bad_behind room good (e ∷ es) ≡ Some (good + 1)
 bad_at zero good e es is = no_more good (length es)
 bad_at (suc room) good e es is =
-    ap (λ t. bad_by good (cond t (1 + prefix_len is_entry (take room es)) 0) (suc (length es))) is ∙ no_more good (length es)
+    ap (λ t. bad_by good (cond t (1 + prefix_len is_entry (take room es)) 0) (suc (length es))) is ∙
+    no_more good (length es)
 
-pub bad_here : (good : ℕ) (e : List ℕ) (es : List (List ℕ)) → is_entry e ≡ false → bad_behind (16 - good) good (e ∷ es) ≡ Some (good + 1)
+pub bad_here : (good : ℕ) (e : List ℕ) (es : List (List ℕ)) → is_entry e ≡ false →
+    bad_behind (16 - good) good (e ∷ es) ≡ Some (good + 1)
 bad_here good e es is = bad_at (16 - good) good e es is
 
-pub bad_full : (good : ℕ) (e : List ℕ) (es : List (List ℕ)) → good ≡ 16 → bad_behind (16 - good) good (e ∷ es) ≡ Some (good + 1)
-bad_full good e es full = ap (λ n. bad_behind n good (e ∷ es)) (let h : 16 - good ≡ 0 = omega arith in h) ∙ no_more good (length es)
+pub bad_full : (good : ℕ) (e : List ℕ) (es : List (List ℕ)) → good ≡ 16 →
+    bad_behind (16 - good) good (e ∷ es) ≡ Some (good + 1)
+bad_full good e es full = ap (λ n. bad_behind n good (e ∷ es))
+    (let h : 16 - good ≡ 0 = omega arith in h) ∙ no_more good (length es)
 
 end_by : (room good : ℕ) → bad_behind room good [] ≡ bad_by good 0 0
 end_by zero good = refl
@@ -66,7 +103,8 @@ pub bad_end_none : (good : ℕ) → good ≡ 0 → bad_behind (16 - good) good [
 bad_end_none good none = end_by (16 - good) good ∙ ap (λ n. bad_by n 0 0) none
 
 pub bad_end_some : (good : ℕ) → 0 < good → bad_behind (16 - good) good [] ≡ None
-bad_end_some good some = end_by (16 - good) good ∙ ap (λ t. cond t (Some (good + 0 + 1)) None) (let h : (nat_lt 0 0 || (good + 0) == 0) ≡ false = grind (arith, nat_tests) in h)
+bad_end_some good some = end_by (16 - good) good ∙ ap (λ t. cond t (Some (good + 0 + 1)) None)
+    (let h : (nat_lt 0 0 || (good + 0) == 0) ≡ false = grind (arith, nat_tests) in h)
 
 host-nil : host [] ≡ None
 unfolding host

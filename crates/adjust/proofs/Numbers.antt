@@ -1,5 +1,23 @@
 -- A number that a u64 has, or has not.
-use Rattle.std.proofs.Common.{◌≡◌, ◌∙◌, ◌<◌, ◌≤◌, ◌+◌, ◌*◌, ℕ, List, length, take, get_or, None, Some, ap, sym, cond, arith}
+use Rattle.std.proofs.Common.{
+  ◌≡◌,
+  ◌∙◌,
+  ◌<◌,
+  ◌≤◌,
+  ◌+◌,
+  ◌*◌,
+  ℕ,
+  List,
+  length,
+  take,
+  get_or,
+  None,
+  Some,
+  ap,
+  sym,
+  cond,
+  arith,
+}
 use Rattle.std.specs.Prelude.{nat_lt}
 use Rattle.std.specs.Char.{digit_value}
 use Rattle.std.specs.Str.Parse.{digits_value}
@@ -30,15 +48,20 @@ is_large n l = ap (λ t. cond t (Some n) None) (le-ltb n 18446744073709551616 l)
 
 -- one more digit
 pub more : (digits : List ℕ) (i n v : ℕ) → i < length digits → n ≡ digits_value 10 (take i digits) →
-    as_u64 (n * 10 + digit_value (get_or digits i 0)) ≡ Some v → v ≡ digits_value 10 (take (i + 1) digits)
+    as_u64 (n * 10 + digit_value (get_or digits i 0)) ≡ Some v →
+    v ≡ digits_value 10 (take (i + 1) digits)
 more digits i n v within e some =
-    has_u64 _ v some ∙ (ap (λ m. m * 10 + digit_value (get_or digits i 0)) e ∙ sym (digits_value_more 10 digits i within))
+    has_u64 _ v some ∙ (ap (λ m. m * 10 + digit_value (get_or digits i 0)) e ∙
+    sym (digits_value_more 10 digits i within))
 
 -- a number that is too large in front is too large as a whole
-pub too_large : (digits : List ℕ) (i n : ℕ) → i < length digits → n ≡ digits_value 10 (take i digits) →
-    as_u64 (n * 10 + digit_value (get_or digits i 0)) ≡ None → as_u64 (digits_value 10 digits) ≡ None
+pub too_large : (digits : List ℕ) (i n : ℕ) → i < length digits →
+    n ≡ digits_value 10 (take i digits) →
+    as_u64 (n * 10 + digit_value (get_or digits i 0)) ≡ None →
+    as_u64 (digits_value 10 digits) ≡ None
 too_large digits i n within e none =
-    let step = ap (λ m. m * 10 + digit_value (get_or digits i 0)) e ∙ sym (digits_value_more 10 digits i within) in
+    let step = ap (λ m. m * 10 + digit_value (get_or digits i 0)) e ∙
+    sym (digits_value_more 10 digits i within) in
     let front = large _ none in
     let whole = digits_value-take-le 10 digits (i + 1) (omega arith) in
     is_large (digits_value 10 digits) (omega arith)

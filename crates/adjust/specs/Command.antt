@@ -1,5 +1,34 @@
 -- What a command line asks for, or what is wrong with it.
-use Rattle.std.specs.Prelude.{◌≡◌, ◌⊎◌, ℕ, Bool, true, false, not, ◌&&◌, ◌||◌, nat_le, List, [], ◌∷◌, position, find, codes, slice_get, unwrap_or, Option, None, Some, is_some, option_map, option_and_then, Result, Ok, Err, if◌then◌else◌}
+use Rattle.std.specs.Prelude.{
+  ◌≡◌,
+  ◌⊎◌,
+  ℕ,
+  Bool,
+  true,
+  false,
+  not,
+  ◌&&◌,
+  ◌||◌,
+  nat_le,
+  List,
+  [],
+  ◌∷◌,
+  position,
+  find,
+  codes,
+  slice_get,
+  unwrap_or,
+  Option,
+  None,
+  Some,
+  is_some,
+  option_map,
+  option_and_then,
+  Result,
+  Ok,
+  Err,
+  if◌then◌else◌,
+}
 use Rattle.std.specs.Borrow.{Bor}
 use Rattle.std.specs.List.{filter_map}
 use Rattle.std.specs.Option.{option_map_or, option_or}
@@ -79,7 +108,8 @@ fit_fault place form value = if fits form value then None else Some (fault.BadVa
 -- what is wrong with the value of the option at this place
 abbrev pub form_fault : ℕ → Form → List ℕ → Option UsageFault
 form_fault place (form.Number low high) value = range_fault place low high (number value)
-form_fault place form.Addresses value = option_map (λ k. fault.BadListen k) (bad_entry (parts false value))
+form_fault place form.Addresses value = option_map (λ k. fault.BadListen k)
+    (bad_entry (parts false value))
 form_fault place form value = fit_fault place form value
 
 abbrev pub value_fault : ℕ → Form → List ℕ → Option UsageFault
@@ -97,12 +127,14 @@ first_value_fault words = slice_get (filter_map (row_fault words) option_rows) 0
 -- the addresses are given by `listen` or by `host` and `port`
 abbrev pub listen_both_ways : List Found → Option UsageFault
 listen_both_ways words =
-    if is_given words (codes "listen") && (is_given words (codes "host") || is_given words (codes "port"))
+    if is_given words (codes "listen") && (is_given words (codes "host") || is_given words
+    (codes "port"))
     then Some (fault.BothWays (place_of (codes "listen"))) else None
 
 abbrev pub clear_both_ways : List Found → Option UsageFault
 clear_both_ways words =
-    if is_on words (codes "clear-untrusted-proxy-headers") && is_on words (codes "no-clear-untrusted-proxy-headers")
+    if is_on words (codes "clear-untrusted-proxy-headers") && is_on words
+    (codes "no-clear-untrusted-proxy-headers")
     then Some (fault.BothWays (place_of (codes "clear-untrusted-proxy-headers"))) else None
 
 abbrev pub proxy_alone : List Found → List ℕ → Option UsageFault
@@ -197,7 +229,8 @@ served words (Ok app) = Ok (Serve (adjustments_of words) app)
 unfoldable pub asked : List Found → Result Command UsageFault
 asked words =
     if is_on words (codes "check") then Ok (Check (adjustments_of words))
-    else if is_given words (codes "rehearse") then Ok (Rehearse (number_at words (codes "rehearse")))
+    else if is_given words (codes "rehearse") then Ok (Rehearse
+    (number_at words (codes "rehearse")))
     else served words (application_of words)
 
 unfoldable pub decided : List Found → Result Command UsageFault

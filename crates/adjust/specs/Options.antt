@@ -1,12 +1,24 @@
 -- The options of the server.
 use Rattle.std.specs.Prelude.{ℕ, List, [], ◌∷◌, codes}
 use Rattle.adjust.specs.declared.options.Form.{Form}
-use Rattle.adjust.specs.declared.options.Form.TheVariants.{Host, Number, Addresses, Proxy, Kinds, Scheme, Path, Name, FieldText, Flag}
+use Rattle.adjust.specs.declared.options.Form.TheVariants.{
+  Host,
+  Number,
+  Addresses,
+  Proxy,
+  Kinds,
+  Scheme,
+  Path,
+  Name,
+  FieldText,
+  Flag,
+}
 use Rattle.adjust.specs.declared.options.Field.{Field}
 use Rattle.adjust.specs.declared.options.Field.TheVariants as field
 use Rattle.adjust.specs.declared.options.OptionRow.{OptionRow}
 
--- an option: its name, what its value has to be, what it shows as, and the value that stands where none is given,
+-- an option: its name, what its value has to be, what it shows as, and the value that stands where
+-- none is given,
 -- which is empty where there is none
 pub record Row : Type 0 where
   pub name : List ℕ
@@ -40,13 +52,17 @@ option_rows =
     ∷ row (codes "recv-bytes") (Number 1 1048576) field.RecvBytes (codes "8192")
     ∷ row (codes "inbuf-overflow") (Number 1 1073741824) field.InbufOverflow (codes "524288")
     ∷ row (codes "outbuf-overflow") (Number 1 1073741824) field.OutbufOverflow (codes "1048576")
-    ∷ row (codes "outbuf-high-watermark") (Number 0 1073741824) field.OutbufHighWatermark (codes "16777216")
+    ∷ row (codes "outbuf-high-watermark") (Number 0 1073741824) field.OutbufHighWatermark
+    (codes "16777216")
     ∷ row (codes "connection-limit") (Number 1 1000) field.ConnectionLimit (codes "100")
     ∷ row (codes "cleanup-interval") (Number 1 86400) field.CleanupInterval (codes "30")
     ∷ row (codes "channel-timeout") (Number 1 86400) field.ChannelTimeout (codes "120")
-    ∷ row (codes "max-request-header-size") (Number 16 16777216) field.MaxRequestHeaderSize (codes "262144")
-    ∷ row (codes "max-request-body-size") (Number 1 1099511627776) field.MaxRequestBodySize (codes "1073741824")
-    ∷ row (codes "channel-request-lookahead") (Number 0 1000) field.ChannelRequestLookahead (codes "0")
+    ∷ row (codes "max-request-header-size") (Number 16 16777216) field.MaxRequestHeaderSize
+    (codes "262144")
+    ∷ row (codes "max-request-body-size") (Number 1 1099511627776) field.MaxRequestBodySize
+    (codes "1073741824")
+    ∷ row (codes "channel-request-lookahead") (Number 0 1000) field.ChannelRequestLookahead
+    (codes "0")
     ∷ row (codes "serve-limit") (Number 1 1000000000) field.ServeLimit []
     ∷ row (codes "rehearse") (Number 1 20000) field.NotShown []
     ∷ row (codes "check") Flag field.NotShown []

@@ -1,5 +1,27 @@
 -- What the values of options are read as.
-use Rattle.std.specs.Prelude.{ℕ, Bool, false, not, ◌&&◌, ◌||◌, ◌==◌, ◌-◌, nat_lt, List, [], ◌∷◌, length, take, drop, codes, slice_get, Option, None, Some, if◌then◌else◌}
+use Rattle.std.specs.Prelude.{
+  ℕ,
+  Bool,
+  false,
+  not,
+  ◌&&◌,
+  ◌||◌,
+  ◌==◌,
+  ◌-◌,
+  nat_lt,
+  List,
+  [],
+  ◌∷◌,
+  length,
+  take,
+  drop,
+  codes,
+  slice_get,
+  Option,
+  None,
+  Some,
+  if◌then◌else◌,
+}
 use Rattle.std.specs.List.{list_all, prefix_len, suffix_len}
 use Rattle.std.specs.Option.{option_map_or}
 use Rattle.std.specs.Str.{bytes_eq}
@@ -73,7 +95,8 @@ is_white_space b = b == 32 || b == 9
 
 abbrev pub is_field_text : List ℕ → Bool
 is_field_text text =
-    list_all is_field text && not (begins_with is_white_space text) && not (ends_with is_white_space text)
+    list_all is_field text && not (begins_with is_white_space text) && not
+    (ends_with is_white_space text)
 
 -- the text without the slashes at both ends
 abbrev pub is_slash : ℕ → Bool

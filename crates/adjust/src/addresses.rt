@@ -1,5 +1,19 @@
 //! Addresses to listen at.
-ghost use Rattle.std.specs.Prelude.{◌≡◌, ◌==◌, ◌+◌, ◌-◌, ◌≤◌, [], false, length, not, option_map, IfOk, IfSome, IfNone};
+ghost use Rattle.std.specs.Prelude.{
+  ◌≡◌,
+  ◌==◌,
+  ◌+◌,
+  ◌-◌,
+  ◌≤◌,
+  [],
+  false,
+  length,
+  not,
+  option_map,
+  IfOk,
+  IfSome,
+  IfNone,
+};
 ghost use Rattle.std.specs.List.{after_last, before_last, suffix_len};
 ghost use Rattle.adjust.specs.Lists as spec;
 
@@ -59,7 +73,8 @@ fn cut_at_last_colon(text: &[u8]) -> Option<(&[u8], &[u8])>
 /// The host and the port of an entry.
 #[tactic(auto, using(crate::proofs::Entries::entry_without), unfolding(crate::specs::Lists::entry))]
 fn read_entry(text: &[u8]) -> Option<(&[u8], u16)>
-    ensures { option_map (λ entry. spec.listen_at entry.0.now entry.1) result ≡ spec.entry text.now }
+    ensures { option_map (λ entry. spec.listen_at entry.0.now entry.1) result ≡ spec.entry
+        text.now }
 {
     let (before, after) = cut_at_last_colon(text)?;
     let host = read_host(before)?;

@@ -1,7 +1,8 @@
 //! What a command line asks for.
-ghost use Rattle.std.specs.Prelude.{◌≡◌, ◌≢◌, IfOk, None, codes, true};
+ghost use Rattle.std.specs.Prelude.{◌≡◌, ◌≢◌, IfOk, IfSome, IsUtf8, None, codes, true};
 ghost use Rattle.adjust.specs.Command as spec;
 ghost use Rattle.adjust.specs.CommandLine.{words_of};
+ghost use Rattle.adjust.specs.Names.{IsNamed, KeepsNames};
 ghost use Rattle.adjust.specs.Ranges.{KeepsRanges};
 
 use crate::addresses::read_listen;
@@ -96,15 +97,16 @@ fn adjustments(alloc: Global, given: &Given<'_>) -> Result<Adjustments, AllocErr
 }
 
 // The operand of an application that has one.
-fn operand(alloc: Global, text: Option<&[u8]>) -> Result<Option<Bytes>, AllocError>
-    ensures { IfOk result (λ operand. operand ≡ spec.operand (spec.now_of text.entry)) }
+fn operand(alloc: Global, text: Option<&str>) -> Result<Option<Bytes>, AllocError>
+    ensures operand { IfOk result (λ operand. operand ≡ spec.operand (spec.now_of text.entry)) }
+    ensures text { IfOk result (λ operand. IfSome operand IsUtf8) }
 {
     match text {
         Some(text) => {
             if text.is_empty() {
                 Ok(None)
             } else {
-                Ok(Some(Bytes::from_slice(alloc, text)?))
+                Ok(Some(Bytes::from_slice(alloc, text.as_bytes())?))
             }
         }
         None => Ok(None),
@@ -114,9 +116,10 @@ fn operand(alloc: Global, text: Option<&[u8]>) -> Result<Option<Bytes>, AllocErr
 fn application(
     alloc: Global,
     name: &[u8],
-    text: Option<&[u8]>,
+    text: Option<&str>,
 ) -> Result<Result<AppName, UsageFault>, AllocError>
-    ensures { IfOk result (λ app. app ≡ spec.application name.now (spec.now_of text.entry)) }
+    ensures app { IfOk result (λ app. app ≡ spec.application name.now (spec.now_of text.entry)) }
+    ensures named { IfOk result (λ app. IfOk app IsNamed) }
 {
     if name == b"echo".as_slice() {
         return match text {
@@ -143,16 +146,19 @@ fn application_of(
     alloc: Global,
     given: &Given<'_>,
 ) -> Result<Result<AppName, UsageFault>, AllocError>
-    ensures { IfOk result (λ app. app ≡ spec.application_of given.now) }
+    ensures app { IfOk result (λ app. app ≡ spec.application_of given.now) }
+    ensures named { IfOk result (λ app. IfOk app IsNamed) }
 {
     match given.value("APP") {
-        Some(name) => application(alloc, name, given.value("ARG")),
+        Some(name) => application(alloc, name, given.operand("ARG")),
         None => Ok(Err(UsageFault::NoApplication)),
     }
 }
 
 fn served(alloc: Global, given: &Given<'_>) -> Result<Result<Command, UsageFault>, AllocError>
-    ensures { IfOk result (λ command. command ≡ spec.served given.now (spec.application_of given.now)) }
+    ensures command { IfOk result (λ command. command ≡ spec.served given.now
+        (spec.application_of given.now)) }
+    ensures names { IfOk result (λ command. IfOk command KeepsNames) }
 {
     match application_of(alloc, given)? {
         Ok(app) => Ok(Ok(Command::Serve(adjustments(alloc, given)?, app))),
@@ -172,7 +178,8 @@ fn connections(given: &Given<'_>) -> u32
 #[tactic(auto, unfolding(crate::specs::Command::asked))]
 fn asked(alloc: Global, given: &Given<'_>) -> Result<Result<Command, UsageFault>, AllocError>
     requires { spec.first_fault given.now ≡ None }
-    ensures { IfOk result (λ command. command ≡ spec.asked given.now) }
+    ensures command { IfOk result (λ command. command ≡ spec.asked given.now) }
+    ensures names { IfOk result (λ command. IfOk command KeepsNames) }
 {
     if given.is_on("check") {
         return Ok(Ok(Command::Check(adjustments(alloc, given)?)));
@@ -185,7 +192,8 @@ fn asked(alloc: Global, given: &Given<'_>) -> Result<Result<Command, UsageFault>
 
 #[tactic(auto, unfolding(crate::specs::Command::decided))]
 fn decided(alloc: Global, given: &Given<'_>) -> Result<Result<Command, UsageFault>, AllocError>
-    ensures { IfOk result (λ command. command ≡ spec.decided given.now) }
+    ensures command { IfOk result (λ command. command ≡ spec.decided given.now) }
+    ensures names { IfOk result (λ command. IfOk command KeepsNames) }
 {
     if given.is_on("help") {
         return Ok(Ok(Command::Help));
@@ -198,7 +206,8 @@ fn decided(alloc: Global, given: &Given<'_>) -> Result<Result<Command, UsageFaul
 
 #[tactic(auto, unfolding(crate::specs::Command::command))]
 fn command(alloc: Global, words: &[String]) -> Result<Result<Command, UsageFault>, AllocError>
-    ensures { IfOk result (λ command. command ≡ spec.command (words_of words.now)) }
+    ensures command { IfOk result (λ command. command ≡ spec.command (words_of words.now)) }
+    ensures names { IfOk result (λ command. IfOk command KeepsNames) }
 {
     match find_given(alloc, words)? {
         Some(matches) => decided(alloc, &Given { matches }),
@@ -212,6 +221,7 @@ pub fn read(alloc: Global, words: &[String]) -> Result<Command, UsageFault>
     ensures command { spec.IsOrLacksMemory (spec.command (words_of words.now)) result }
     ensures memory { spec.command (words_of words.now) ≢ Err UsageFault.NoMemory }
     ensures ranges { IfOk result KeepsRanges }
+    ensures names { IfOk result KeepsNames }
 {
     match command(alloc, words) {
         Ok(command) => command,

@@ -25,7 +25,8 @@ impl<'a> Model for Given<'a> {
 }
 
 fn row_named(rows: &'static [OptionRow], name: &str) -> Option<&'static OptionRow>
-    ensures { option_map (λ row. row.now) result ≡ find (λ row. spec.has_name name.now (row_of row)) rows.entry.now }
+    ensures { option_map (λ row. row.now) result ≡ find (λ row. spec.has_name name.now (row_of row))
+        rows.entry.now }
 {
     rows.iter().find(|row| row.name == name)
 }
@@ -53,7 +54,8 @@ fn default_of(name: &str) -> &'static [u8]
 }
 
 fn text_in<'a>(matches: &ArgMatches<'a>, name: &str) -> Option<&'a str>
-    ensures { option_map (λ text. text.now) result ≡ first_of name.now (rows_of (found_of matches.now)) }
+    ensures { option_map (λ text. text.now) result ≡ first_of name.now
+        (rows_of (found_of matches.now)) }
 {
     matches.get_str(name)
 }
@@ -67,6 +69,13 @@ impl<'a> Given<'a> {
             Some(text) => Some(text.as_bytes()),
             None => None,
         }
+    }
+
+    /// A value that is text, as the words are.
+    pub(crate) fn operand(&self, name: &str) -> Option<&'a str>
+        ensures { option_map (λ text. text.now) result ≡ spec.value self.now name.now }
+    {
+        text_in(&self.matches, name)
     }
 
     pub(crate) fn is_given(&self, name: &str) -> bool

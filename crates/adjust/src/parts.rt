@@ -1,5 +1,16 @@
 //! The parts of a value that is a list.
-ghost use Rattle.std.specs.Prelude.{◌≡◌, ◌∷◌, ◌<◌, [], false, true, length, position, IfSome, IfNone};
+ghost use Rattle.std.specs.Prelude.{
+  ◌≡◌,
+  ◌∷◌,
+  ◌<◌,
+  [],
+  false,
+  true,
+  length,
+  position,
+  IfSome,
+  IfNone,
+};
 ghost use Rattle.std.specs.Iterator.{YieldsFirstRef, item_count};
 ghost use Rattle.adjust.specs.Lists as spec;
 
@@ -32,7 +43,8 @@ fn separator_place(commas: bool, text: &[u8]) -> Option<usize>
 
 // The bytes up to the first separator, and those behind it.
 fn cut_part(commas: bool, text: &[u8]) -> (&[u8], &[u8])
-    ensures parts { spec.parts commas text.now ≡ spec.onto_parts result.0.now (spec.parts commas result.1.now) }
+    ensures parts { spec.parts commas text.now ≡ spec.onto_parts result.0.now
+        (spec.parts commas result.1.now) }
     ensures shorter { 0 < length text.now → length result.1.now < length text.now }
 {
     match separator_place(commas, text) {
@@ -44,7 +56,8 @@ fn cut_part(commas: bool, text: &[u8]) -> (&[u8], &[u8])
 // The first part, and what stands behind it.
 #[tactic(auto, using(crate::proofs::Cuts::parts_none))]
 fn first_part(commas: bool, text: &[u8]) -> Option<(&[u8], &[u8])>
-    ensures some { IfSome result (λ cut. spec.parts commas text.now ≡ cut.0.now ∷ spec.parts commas cut.1.now) }
+    ensures some { IfSome result (λ cut. spec.parts commas text.now ≡ cut.0.now ∷ spec.parts commas
+        cut.1.now) }
     ensures none { IfNone result (spec.parts commas text.now ≡ []) }
 {
     let mut rest = text;

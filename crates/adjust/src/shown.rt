@@ -58,7 +58,8 @@ fn push_listen_behind(text: &mut Vec<u8>, listen: &Listen) -> Result<(), AllocEr
 }
 
 fn push_other_listens(text: &mut Vec<u8>, entries: &[Listen]) -> Result<(), AllocError>
-    ensures { OnOk result (text.new.items ≡ text.old.items ++ concat (map (λ y. 32 ∷ spec.listen_text y) entries.now)) }
+    ensures { OnOk result (text.new.items ≡ text.old.items ++ concat
+        (map (λ y. 32 ∷ spec.listen_text y) entries.now)) }
 {
     for entry in entries {
         push_listen_behind(text, entry)?;
@@ -67,7 +68,8 @@ fn push_other_listens(text: &mut Vec<u8>, entries: &[Listen]) -> Result<(), Allo
 }
 
 fn push_listens(text: &mut Vec<u8>, entries: &[Listen]) -> Result<(), AllocError>
-    ensures { OnOk result (text.new.items ≡ text.old.items ++ spec.list_text spec.listen_text 32 entries.now) }
+    ensures { OnOk result (text.new.items ≡ text.old.items ++ spec.list_text spec.listen_text 32
+        entries.now) }
 {
     let Some((first, others)) = entries.split_first() else {
         return text.extend_from_slice(b"none");
@@ -84,7 +86,8 @@ fn push_kind_behind(text: &mut Vec<u8>, kind: Kind) -> Result<(), AllocError>
 }
 
 fn push_other_kinds(text: &mut Vec<u8>, kinds: &[Kind]) -> Result<(), AllocError>
-    ensures { OnOk result (text.new.items ≡ text.old.items ++ concat (map (λ y. 44 ∷ spec.kind_text y) kinds.now)) }
+    ensures { OnOk result (text.new.items ≡ text.old.items ++ concat
+        (map (λ y. 44 ∷ spec.kind_text y) kinds.now)) }
 {
     for kind in kinds {
         push_kind_behind(text, *kind)?;
@@ -93,7 +96,8 @@ fn push_other_kinds(text: &mut Vec<u8>, kinds: &[Kind]) -> Result<(), AllocError
 }
 
 fn push_kinds(text: &mut Vec<u8>, kinds: &[Kind]) -> Result<(), AllocError>
-    ensures { OnOk result (text.new.items ≡ text.old.items ++ spec.list_text spec.kind_text 44 kinds.now) }
+    ensures { OnOk result (text.new.items ≡ text.old.items ++ spec.list_text spec.kind_text 44
+        kinds.now) }
 {
     let Some((first, others)) = kinds.split_first() else {
         return text.extend_from_slice(b"none");
@@ -168,7 +172,8 @@ fn is_shown(field: Field) -> bool
 }
 
 fn push_line(text: &mut Vec<u8>, of: &Adjustments, row: &OptionRow) -> Result<(), AllocError>
-    ensures { OnOk result (text.new.items ≡ text.old.items ++ spec.check_line of.now (row_of row.now)) }
+    ensures { OnOk result (text.new.items ≡ text.old.items ++ spec.check_line of.now
+        (row_of row.now)) }
 {
     if !is_shown(row.field) {
         return Ok(());

@@ -56,7 +56,8 @@ fn push_range(text: &mut Vec<u8>, form: Form) -> Result<(), AllocError>
 }
 
 fn out_of_range(alloc: Global, place: usize) -> Result<Vec<u8>, AllocError>
-    ensures { IfOk result (λ text. text.items ≡ spec.about place (codes " must be from ") ++ spec.range_text (spec.form_at place)) }
+    ensures { IfOk result (λ text. text.items ≡ spec.about place (codes " must be from ") ++
+        spec.range_text (spec.form_at place)) }
 {
     let mut text = about(alloc, place, b" must be from ")?;
     push_range(&mut text, form_at(place))?;
@@ -64,7 +65,8 @@ fn out_of_range(alloc: Global, place: usize) -> Result<Vec<u8>, AllocError>
 }
 
 fn bad_entry(alloc: Global, entry: usize) -> Result<Vec<u8>, AllocError>
-    ensures { IfOk result (λ text. text.items ≡ codes "--listen entry " ++ (decimal entry ++ codes " is not host:port")) }
+    ensures { IfOk result (λ text. text.items ≡ codes "--listen entry " ++
+        (decimal entry ++ codes " is not host:port")) }
 {
     let mut text = Vec::from_slice(alloc, b"--listen entry ")?;
     push_number(&mut text, entry as u64)?;

@@ -10,7 +10,8 @@ returns-in-Ok-clause-memory c = command_no_memory (words_of c.args.words.now)
 
 pub returns-in-Ok-clause-ranges : goal.returns-in-Ok-clause-ranges
 returns-in-Ok-clause-ranges c =
-    subst (λ r. IfOk r KeepsRanges) (sym c.in-Ok.ensures) (command_ranges (words_of c.args.words.now))
+    subst (λ r. IfOk r KeepsRanges) (sym c.in-Ok.ensures.command)
+    (command_ranges (words_of c.args.words.now))
 
 pub returns-in-Err-clause-memory : goal.returns-in-Err-clause-memory
 returns-in-Err-clause-memory c = command_no_memory (words_of c.args.words.now)

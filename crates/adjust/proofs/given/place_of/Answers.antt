@@ -5,4 +5,5 @@ use Rattle.adjust.proofs.given.place_of.Goals as goal
 
 pub returns : goal.returns
 returns c =
-    c.unwrap_or.ensures ∙ (ap (λ r. unwrap_or r 0) c.place_among.ensures ∙ place_by c.args.name.now c.rows.result.now c.rows.ensures)
+    c.unwrap_or.ensures ∙ (ap (λ r. unwrap_or r 0) c.place_among.ensures ∙
+    place_by c.args.name.now c.rows.result.now c.rows.ensures)

@@ -5,4 +5,5 @@ use Rattle.adjust.specs.Lists.{kind_row}
 use Rattle.adjust.proofs.kinds.read_kinds.Given as goal
 
 abbrev pub invariant-loop-row : goal.invariant-loop-row
-invariant-loop-row l = l.kinds.items ≡ kinds_among l.text (map kind_row (take l.row-index l.row-items))
+invariant-loop-row l = l.kinds.items ≡ kinds_among l.text
+    (map kind_row (take l.row-index l.row-items))

@@ -6,4 +6,6 @@ use Rattle.adjust.proofs.shown.check_text.Goals as goal
 pub returns : goal.returns
 unfolding check_text_of
 returns c =
-    c.from_vec.ensures ∙ (c.in_ok-push_lines.ensures ∙ table_text (check_line c.args.adjustments.now) c.rows.result.now c.new-text.result.items [] c.rows.ensures c.new-text.ensures.items)
+    c.from_vec.ensures ∙ (c.in_ok-push_lines.ensures ∙ table_text
+    (check_line c.args.adjustments.now) c.rows.result.now c.new-text.result.items []
+    c.rows.ensures c.new-text.ensures.items)

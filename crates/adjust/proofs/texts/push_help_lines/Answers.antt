@@ -6,4 +6,6 @@ use Rattle.adjust.proofs.texts.push_help_lines.Goals as goal
 
 pub loop-row-preserved : goal.loop-row-preserved
 loop-row-preserved c =
-    c.in_ok-push_help_line.ensures ∙ joined_more (λ row. help_line (row_of row)) c.args.text.now.items c.loop-row.text.items c.args.rows.now c.loop-row.row-index _ c.loop-row-test.true c.loop-row.invariant
+    c.in_ok-push_help_line.ensures ∙ joined_more (λ row. help_line (row_of row))
+    c.args.text.now.items c.loop-row.text.items c.args.rows.now c.loop-row.row-index _
+    c.loop-row-test.true c.loop-row.invariant

@@ -6,4 +6,5 @@ use Rattle.adjust.proofs.Joined.{joined}
 use Rattle.adjust.proofs.texts.push_help_lines.Given as goal
 
 abbrev pub invariant-loop-row : goal.invariant-loop-row
-invariant-loop-row l = l.text.items ≡ l.fn.text.items ++ joined (λ row. help_line (row_of row)) (take l.row-index l.rows)
+invariant-loop-row l = l.text.items ≡ l.fn.text.items ++ joined (λ row. help_line (row_of row))
+    (take l.row-index l.rows)

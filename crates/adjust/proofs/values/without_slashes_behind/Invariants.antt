@@ -7,7 +7,8 @@ use Rattle.adjust.proofs.values.without_slashes_behind.Given as goal
 abbrev pub invariant-loop-end : goal.invariant-loop-end
 invariant-loop-end l = record {
   within : l.end ≤ length l.text;
-  behind : suffix_len is_slash (take l.end l.text) + (length l.text - l.end) ≡ suffix_len is_slash l.text;
+  behind : suffix_len is_slash (take l.end l.text) + (length l.text - l.end) ≡ suffix_len is_slash
+      l.text;
 }
 
 abbrev pub decreases-loop-end : goal.decreases-loop-end
