@@ -1,5 +1,7 @@
 -- What each function on the state does to it.
-use Rattle.std.specs.Prelude.{◌≡◌, ◌<◌, ◌+◌, ℕ, max, Bool, true, false, not, ◌&&◌, ◌||◌, if◌then◌else◌, nat_eq, nat_lt, List, [], ◌∷◌, ◌++◌, length, drop, Option, Some, None, is_none, Result, Ok, Err}
+use Rattle.std.specs.Prelude.{◌≡◌, ◌<◌, ◌+◌, ℕ, max, Bool, true, false, not, ◌&&◌, ◌||◌}
+use Rattle.std.specs.Prelude.{if◌then◌else◌, nat_eq, nat_lt, List, [], ◌∷◌, ◌++◌, length, drop}
+use Rattle.std.specs.Prelude.{Option, Some, None, is_none, Result, Ok, Err}
 use Rattle.std.specs.Option.{ForSome}
 use Rattle.outside.specs.declared.types.End.{End}
 use Rattle.request_stream.specs.declared.types.Unit.{Unit as AUnit}
@@ -64,11 +66,13 @@ module _ {A R S : Type 0} where
 
   -- The first ready unit becomes current.
   abbrev pub Begins : Option (AUnit S) → State A R S → State A R S → Type 0
-  Begins (Some unit) old new = (old.ready ≡ unit ∷ new.ready) × (new ≡ record old { ready = new.ready; current = true })
+  Begins (Some unit) old new = (old.ready ≡ unit ∷ new.ready)
+      × (new ≡ record old { ready = new.ready; current = true })
   Begins None old new = (old.ready ≡ []) × (new ≡ old)
 
   -- A text was put behind the output.
-  pub record Adds (tells : Bool) (text : List ℕ) (ended : Option Bool) (old new : State A R S) : Type 0 where
+  pub record Adds (tells : Bool) (text : List ℕ) (ended : Option Bool)
+      (old new : State A R S) : Type 0 where
     pub before : Buffered S
     pub after : Buffered S
     pub had : old.output ≡ Some before

@@ -1,10 +1,13 @@
 -- What one recv, one send and the end of a call come to, by what is shown.
-use Rattle.std.specs.Prelude.{◌≡◌, ◌≤◌, ◌<◌, ◌+◌, ◌⊎◌, ℕ, Bool, true, false, not, ◌||◌, IsTrue, List, ◌++◌, length, is_some, IsSome, Option, Some, None}
+use Rattle.std.specs.Prelude.{◌≡◌, ◌≤◌, ◌<◌, ◌+◌, ◌⊎◌, ℕ, Bool, true, false, not, ◌||◌, IsTrue}
+use Rattle.std.specs.Prelude.{List, ◌++◌, length, is_some, IsSome, Option, Some, None}
 use Rattle.outside.specs.Causes.{Rose, raised}
 use Rattle.outside.specs.Link.{LinkState, stamped}
 use Rattle.outside.specs.declared.types.End.{End}
 use Rattle.outside.specs.declared.types.End.TheVariants as over
-use Rattle.channel.specs.Views.{CheckCause, Checks, DrainCause, Drains, IsOver, LinkGoes, Moves, ReadCause, Reads, Shown, Stamps, StaysDead, StaysOpen, UnlessOver, View, is_readable, is_writable, over_of}
+use Rattle.channel.specs.Views.{CheckCause, Checks, DrainCause, Drains, IsOver, LinkGoes, Moves}
+use Rattle.channel.specs.Views.{ReadCause, Reads, Shown, Stamps, StaysDead, StaysOpen, UnlessOver}
+use Rattle.channel.specs.Views.{View, is_readable, is_writable, over_of}
 use Rattle.channel.specs.declared.near.Moved.{Moved}
 use Rattle.channel.specs.declared.near.Moved.TheVariants as moved
 use Rattle.channel.specs.declared.types.Acted.{Acted}
@@ -111,7 +114,8 @@ pub record Hears (tells : Bool) (now : ℕ) (what : Moved) (old new : View) : Ty
   pub idle : what ≡ moved.Idle → new ≡ old
 
 -- a recv, where the channel is readable
-pub record HearsSome (tells : Bool) (now : ℕ) (w : Window) (what : Moved) (old new : View) : Type 0 where
+pub record HearsSome (tells : Bool) (now : ℕ) (w : Window) (what : Moved)
+    (old new : View) : Type 0 where
   pub asked : IfAsked (is_readable w old.shown) what old.shown.dead
   pub hears : Hears tells now what old new
 
@@ -183,7 +187,12 @@ pub record Concludes (old new : View) : Type 0 where
 
 -- it timed out at this moment
 abbrev pub dies_at : ℕ → View → View
-dies_at at view = record view { shown = record view.shown { dead = Some (over.TimedOut view.shown.touched at) } }
+dies_at at view = record view {
+  shown = record view.shown {
+    dead =
+        Some (over.TimedOut view.shown.touched at);
+  };
+}
 
 -- what the calls of the polling side have in common
 pub record Calls (tells : Bool) (now : ℕ) (act : Acted) (old new : View) : Type 0 where
@@ -198,18 +207,21 @@ pub record Calls (tells : Bool) (now : ℕ) (act : Acted) (old new : View) : Typ
   pub stays : UnlessOver act (StaysOpen old new)
   pub touches : (new.shown.touched ≡ old.shown.touched) ⊎ (new.shown.touched ≡ now)
 
-pub record ReadCalls (tells : Bool) (now : ℕ) (w : Window) (act : Acted) (old new : View) : Type 0 where
+pub record ReadCalls (tells : Bool) (now : ℕ) (w : Window) (act : Acted)
+    (old new : View) : Type 0 where
   pub calls : Calls tells now act old new
   pub reads : UnlessOver act (Reads tells w old new)
   pub cause : old.shown.dead ≡ None → ReadCause tells w act old new
 
-pub record DrainCalls (tells : Bool) (now : ℕ) (w : Window) (act : Acted) (old new : View) : Type 0 where
+pub record DrainCalls (tells : Bool) (now : ℕ) (w : Window) (act : Acted)
+    (old new : View) : Type 0 where
   pub calls : Calls tells now act old new
   pub drains : UnlessOver act (Drains tells w old new)
   pub cause : old.shown.dead ≡ None → DrainCause tells act old new
   pub unput : new.shown.put ≡ old.shown.put
 
-pub record CheckCalls (tells : Bool) (now : ℕ) (w : Window) (act : Acted) (old new : View) : Type 0 where
+pub record CheckCalls (tells : Bool) (now : ℕ) (w : Window) (act : Acted)
+    (old new : View) : Type 0 where
   pub calls : Calls tells now act old new
   pub checks : UnlessOver act (Checks tells now w old new)
   pub cause : old.shown.dead ≡ None → CheckCause tells now w act old new

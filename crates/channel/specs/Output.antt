@@ -1,5 +1,6 @@
 -- What a channel owes to the bytes that arrive on it.
-use Rattle.std.specs.Prelude.{◌≡◌, ℕ, Bool, true, false, List, [], ◌∷◌, ◌++◌, if◌then◌else◌, codes, length, map, Result, Ok, Err}
+use Rattle.std.specs.Prelude.{◌≡◌, ℕ, Bool, true, false, List, [], ◌∷◌, ◌++◌, if◌then◌else◌, codes}
+use Rattle.std.specs.Prelude.{length, map, Result, Ok, Err}
 use Rattle.std.specs.List.{list_any}
 use Rattle.head_grammar.specs.declared.types.Head.{Head}
 use Rattle.outside.specs.declared.types.Kind.{Kind}

@@ -1,5 +1,5 @@
--- What is shown of a state, of the stream and the moments that the polling side has for itself, and of
--- what both sides did.
+-- What is shown of a state, of the stream and the moments that the polling side has for itself, and
+-- of what both sides did.
 use Rattle.std.specs.Prelude.{ℕ, Bool, ◌||◌, length}
 use Rattle.request_stream.specs.Story.{Story}
 use Rattle.channel.specs.Acting.{output_length}
@@ -8,7 +8,8 @@ use Rattle.channel.specs.State.{State}
 use Rattle.channel.specs.Views.{Shown}
 
 -- left is the number of steps that the run of the current answer may have left
-abbrev pub shown_of : {A R S : Type 0} → Story → Bool → ℕ → State A R S → LeftPast S → RightPast S → ℕ → Shown
+abbrev pub shown_of : {A R S : Type 0} → Story → Bool → ℕ → State A R S → LeftPast S → RightPast S →
+    ℕ → Shown
 shown_of story ended touched s l r left = record {
   put = length l.put;
   begun = length r.began;

@@ -22,23 +22,32 @@ module _ {A R S : Type 0} (known : Known A R S) where
     pub told : entry.value ≡ Began unit ∷ []
 
   -- It became current, and then its answer broke off.
-  pub record BeginsInVain (why : Cause) (old new : State A R S) (entry : RightEntry S) : Type 0 where
+  pub record BeginsInVain (why : Cause) (old new : State A R S)
+      (entry : RightEntry S) : Type 0 where
     pub unit : AUnit S
     pub idle : old.current ≡ false
     pub first : old.ready ≡ unit ∷ new.ready
-    pub broken : KeepsBroken known.spill_faults known.run_faults known.body_faults (Some why) new.fallen new.output
-    pub now : new ≡ record old { ready = new.ready; current = true; dead = Some (end_by why); fallen = new.fallen }
+    pub broken : KeepsBroken known.spill_faults known.run_faults known.body_faults
+        (Some why) new.fallen new.output
+    pub now : new ≡ record old {
+      ready = new.ready;
+      current = true;
+      dead = Some (end_by why);
+      fallen = new.fallen;
+    }
     pub told : entry.value ≡ Began unit ∷ Broke why ∷ []
 
   -- the run of the current answer took a step that wrote nothing
-  pub record TakesStep (old_left new_left : ℕ) (old new : State A R S) (entry : RightEntry S) : Type 0 where
+  pub record TakesStep (old_left new_left : ℕ) (old new : State A R S)
+      (entry : RightEntry S) : Type 0 where
     pub fewer : new_left < old_left
     pub busy : old.current ≡ true
     pub now : new ≡ old
     pub told : entry.value ≡ []
 
   -- the run of the current answer took a step that wrote a text, and goes on
-  pub record WritesOn (old_left new_left : ℕ) (old new : State A R S) (entry : RightEntry S) : Type 0 where
+  pub record WritesOn (old_left new_left : ℕ) (old new : State A R S)
+      (entry : RightEntry S) : Type 0 where
     pub fewer : new_left < old_left
     pub busy : old.current ≡ true
     pub text : List ℕ
@@ -53,13 +62,15 @@ module _ {A R S : Type 0} (known : Known A R S) where
     pub writes : Writes known.spill_tells text (Some closes) old new entry
 
   -- the current answer broke off
-  pub record Stops (why : Cause) (old_left new_left : ℕ) (old new : State A R S) (entry : RightEntry S) : Type 0 where
+  pub record Stops (why : Cause) (old_left new_left : ℕ) (old new : State A R S)
+      (entry : RightEntry S) : Type 0 where
     pub left : new_left ≤ old_left
     pub busy : old.current ≡ true
     pub breaks : BreaksNow known why old new entry
 
   -- no unit is there
-  pub record Rests (old_left new_left : ℕ) (old new : State A R S) (entry : RightEntry S) : Type 0 where
+  pub record Rests (old_left new_left : ℕ) (old new : State A R S)
+      (entry : RightEntry S) : Type 0 where
     pub left : new_left ≡ old_left
     pub idle : old.current ≡ false
     pub none : old.ready ≡ []
@@ -81,8 +92,10 @@ module _ {A R S : Type 0} (known : Known A R S) where
   abbrev pub AddsText : Progress → Writing R → State A R S → State A R S → RightEntry S → Type 0
   AddsText progress.More Idle old new entry = (new ≡ old) × (entry.value ≡ [])
   AddsText progress.More (Scripted s) old new entry = (new ≡ old) × (entry.value ≡ [])
-  AddsText progress.More (Waits w) old new entry = Writes known.spill_tells w.text None old new entry
-  AddsText progress.More (Last text closes) old new entry = Writes known.spill_tells text (Some closes) old new entry
+  AddsText progress.More (Waits w) old new entry =
+      Writes known.spill_tells w.text None old new entry
+  AddsText progress.More (Last text closes) old new entry =
+      Writes known.spill_tells text (Some closes) old new entry
   AddsText progress.Above writing old new entry = ⊥
   AddsText progress.Rest writing old new entry = ⊥
   AddsText progress.Dead writing old new entry = ⊥

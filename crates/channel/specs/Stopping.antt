@@ -32,7 +32,8 @@ TakesFromRun left (Waits w) new = new ≡ Waits w
 TakesFromRun left (Last text closes) new = new ≡ Last text closes
 
 -- a step leaves what is still to be written as it is, and an answer that will close will close
-pub record StepsOn {R : Type 0} (tells : Bool) (rest : R → List Step) (left : R → ℕ) (old new : Writing R) : Type 0 where
+pub record StepsOn {R : Type 0} (tells : Bool) (rest : R → List Step) (left : R →
+    ℕ) (old new : Writing R) : Type 0 where
   pub busy : is_busy new ≡ is_busy old
   pub gives : IsTrue tells → still_gives rest old ≡ still_gives rest new
   pub takes : TakesFromRun left old new

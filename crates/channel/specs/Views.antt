@@ -1,5 +1,7 @@
 -- What contracts see of a channel of one thread, and what its calls do to it.
-use Rattle.std.specs.Prelude.{◌≡◌, ◌≤◌, ◌<◌, ◌+◌, ◌*◌, ◌⊎◌, ◌&&◌, ◌||◌, ◌++◌, ℕ, Bool, true, false, not, IsTrue, List, length, nat_eq, nat_lt, nat_le, is_none, is_some, IsSome, Option, None, Some, if◌then◌else◌}
+use Rattle.std.specs.Prelude.{◌≡◌, ◌≤◌, ◌<◌, ◌+◌, ◌*◌, ◌⊎◌, ◌&&◌, ◌||◌, ◌++◌, ℕ, Bool, true, false}
+use Rattle.std.specs.Prelude.{not, IsTrue, List, length, nat_eq, nat_lt, nat_le, is_none, is_some}
+use Rattle.std.specs.Prelude.{IsSome, Option, None, Some, if◌then◌else◌}
 use Rattle.outside.specs.Causes.{Rose}
 use Rattle.outside.specs.Link.{LinkState, stamped}
 use Rattle.outside.specs.declared.types.End.{End}
@@ -91,7 +93,8 @@ is_working s = nat_lt 0 (units_of s)
 
 abbrev pub is_readable : Window → Shown → Bool
 is_readable w s =
-    not s.closing && not s.finished && not s.ended && nat_le (units_of s) w.lookahead && nat_eq s.output 0
+    not s.closing && not s.finished && not s.ended && nat_le (units_of s) w.lookahead
+    && nat_eq s.output 0
 
 abbrev pub is_writable : Shown → Bool
 is_writable s = nat_lt 0 s.output
@@ -119,15 +122,18 @@ over_of s = over_by s.dead (is_done s)
 
 -- it waited for longer than the timeout
 abbrev pub is_late : ℕ → Window → Shown → Bool
-is_late now w s = nat_lt (s.touched + w.timeout) now && (not (is_working s) || nat_lt w.high_watermark s.output)
+is_late now w s = nat_lt (s.touched + w.timeout) now
+    && (not (is_working s) || nat_lt w.high_watermark s.output)
 
 -- it wants something, has something to do, or is over
 abbrev pub Stirs : Window → Shown → Type 0
-Stirs w s = IsTrue (is_readable w s || (is_writable s || (is_working s || (is_some s.dead || is_done s))))
+Stirs w s = IsTrue (is_readable w s || (is_writable s
+    || (is_working s || (is_some s.dead || is_done s))))
 
 -- ---- what any call does
 
--- What rises has its cause: units are put, begun and answered, and each of these counts for something.
+-- What rises has its cause: units are put, begun and answered, and each of these counts for
+-- something.
 pub record Moves (old new : Shown) : Type 0 where
   pub put : old.put ≤ new.put
   pub begun : old.begun ≤ new.begun
@@ -138,7 +144,8 @@ pub record Moves (old new : Shown) : Type 0 where
   -- more steps are left only where a unit began
   pub left : new.begun ≡ old.begun → new.left ≤ old.left
   -- the output is longer only where a unit began or was answered, or fewer steps are left
-  pub output : new.begun ≡ old.begun → new.answered ≡ old.answered → old.left ≤ new.left → new.output ≤ old.output
+  pub output : new.begun ≡ old.begun → new.answered ≡ old.answered → old.left ≤ new.left →
+      new.output ≤ old.output
   pub dead : IsSome old.dead → new.dead ≡ old.dead
 
 -- With a link that tells: its lists and counts grow, and units are put only where more came.
@@ -150,8 +157,8 @@ pub record LinkGoes (old new : View) : Type 0 where
   pub send_put_off : old.link.send_put_off ≤ new.link.send_put_off
   pub ended : IsTrue old.link.ended → IsTrue new.link.ended
   pub fed : old.shown.put < new.shown.put → length old.link.arrivals < length new.link.arrivals
-  -- what is sent comes out of the output, which is longer only where a unit began or was answered, or
-  -- fewer steps are left
+  -- what is sent comes out of the output, which is longer only where a unit began or was answered,
+  -- or fewer steps are left
   pub bytes : new.shown.begun ≡ old.shown.begun → new.shown.answered ≡ old.shown.answered →
       old.shown.left ≤ new.shown.left →
       new.shown.output + length new.link.sent ≤ old.shown.output + length old.link.sent
@@ -249,7 +256,8 @@ pub record Drains (tells : Bool) (w : Window) (old new : View) : Type 0 where
 -- why a drain answers so
 abbrev pub DrainCause : Bool → Acted → View → View → Type 0
 DrainCause tells acted.Did old new = IsTrue (is_writable old.shown) ×
-    ((new.shown.output < old.shown.output) × (IsTrue tells → length old.link.sent < length new.link.sent))
+    ((new.shown.output < old.shown.output) × (IsTrue tells →
+    length old.link.sent < length new.link.sent))
 DrainCause tells acted.Held old new = ⊥
 DrainCause tells acted.Nothing old new =
     ((is_writable old.shown ≡ false) × (new ≡ old))
@@ -280,10 +288,13 @@ pub record TimesOut (tells : Bool) (touched at now : ℕ) (w : Window) (old new 
 
 -- why an idle check answers so: as its drain, unless the channel is late behind it
 abbrev pub CheckCause : Bool → ℕ → Window → Acted → View → View → Type 0
-CheckCause tells now w (acted.Over (over.TimedOut touched at)) old new = TimesOut tells touched at now w old new
+CheckCause tells now w (acted.Over (over.TimedOut touched at)) old new =
+    TimesOut tells touched at now w old new
 CheckCause tells now w (acted.Over over.Done) old new = Unit {0}
-CheckCause tells now w (acted.Over over.LinkFault) old new = DrainCause tells (acted.Over over.LinkFault) old new
-CheckCause tells now w (acted.Over over.SpillFault) old new = DrainCause tells (acted.Over over.SpillFault) old new
+CheckCause tells now w (acted.Over over.LinkFault) old new =
+    DrainCause tells (acted.Over over.LinkFault) old new
+CheckCause tells now w (acted.Over over.SpillFault) old new =
+    DrainCause tells (acted.Over over.SpillFault) old new
 CheckCause tells now w (acted.Over over.NoMemory) old new = ⊥
 CheckCause tells now w (acted.Over over.AppFault) old new = ⊥
 CheckCause tells now w (acted.Over over.ShutDown) old new = ⊥
@@ -300,7 +311,8 @@ Steps old new = (old.begun < new.begun) ⊎ ((old.answered < new.answered) ⊎ (
 -- what a step leaves
 abbrev pub Advances : Window → Progress → Shown → Shown → Type 0
 Advances w progress.More old new = IsTrue (is_due w old) × (new.dead ≡ None) × Steps old new
-Advances w progress.Above old new = (old.dead ≡ None) × (w.high_watermark < old.output) × (new ≡ old)
+Advances w progress.Above old new = (old.dead ≡ None) × (w.high_watermark < old.output)
+    × (new ≡ old)
 Advances w progress.Rest old new = (old.dead ≡ None) × (is_working old ≡ false) × (new ≡ old)
 Advances w progress.Dead old new = IsSome old.dead × (new ≡ old)
 Advances w (progress.Broke why) old new = IsTrue (is_due w old) × (new.dead ≡ Some (end_by why))
@@ -323,8 +335,8 @@ pub record Counts (R S : Type 0) : Type 0 where
   pub run : R → ℕ
   pub body : R → ℕ
 
--- What a closed channel leaves: what its link tells and how often that failed, what it was owed, and
--- what broke, a spill or a run.
+-- What a closed channel leaves: what its link tells and how often that failed, what it was owed,
+-- and what broke, a spill or a run.
 pub record Rest (R S : Type 0) : Type 0 where
   pub link : LinkState
   pub faults : ℕ
@@ -341,7 +353,8 @@ abbrev pub telling : Bool → Bool → Bool → Telling
 telling link spill app = record { link = link; all = link && (spill && app) }
 
 -- It waited for longer than the timeout: all was sent, or the link takes nothing more.
-pub record WaitedTooLong (tells : Telling) (timeout : ℕ) (link : LinkState) (owed : Owed) (touched now : ℕ) : Type 0 where
+pub record WaitedTooLong (tells : Telling) (timeout : ℕ) (link : LinkState) (owed : Owed)
+    (touched now : ℕ) : Type 0 where
   pub touched_is : IsTrue tells.link → touched ≡ link.touched
   pub late : touched + timeout < now
   pub idle : IsTrue tells.all → (link.sent ≡ owed.output) ⊎ IsTrue link.choked

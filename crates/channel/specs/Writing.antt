@@ -1,5 +1,6 @@
 -- What a job still gives of the current answer.
-use Rattle.std.specs.Prelude.{◌≡◌, ℕ, Bool, true, false, IsTrue, List, [], ◌++◌, length, take, map, Option, Some, None, is_some}
+use Rattle.std.specs.Prelude.{◌≡◌, ℕ, Bool, true, false, IsTrue, List, [], ◌++◌, length, take, map}
+use Rattle.std.specs.Prelude.{Option, Some, None, is_some}
 use Rattle.std.specs.List.{list_any}
 use Rattle.std.specs.Option.{ForSome}
 use Rattle.outside.specs.declared.types.Peer.{Peer}
@@ -17,11 +18,15 @@ use Rattle.channel.specs.declared.writing.Writing.TheVariants.{Idle, Scripted, W
 -- A text behind what was written of an answer: a front of it, or its end.
 abbrev pub GoesBy : Answer → List ℕ → List ℕ → Option Bool → Type 0
 GoesBy answer written text None = take (length (written ++ text)) answer.text ≡ written ++ text
-GoesBy answer written text (Some closes) = answer ≡ record { text = written ++ text; closes = closes }
+GoesBy answer written text (Some closes) = answer ≡ record {
+  text = written ++ text;
+  closes =
+      closes;
+}
 
 module _ {R : Type 0} (rest : R → List Step) where
-  -- what is still to be written of the current answer: a text that waits, and what the task gives over the
-  -- rest of the script
+  -- what is still to be written of the current answer: a text that waits, and what the task gives
+  -- over the rest of the script
   abbrev pub still_gives : Writing R → Answer
   still_gives Idle = record { text = []; closes = false }
   still_gives (Scripted s) = remaining s.task (rest s.run)
@@ -73,12 +78,15 @@ is_settled (Scripted s) = true
 is_settled (Waits w) = false
 is_settled (Last text closes) = true
 
--- Until it breaks, a job has an answer under way exactly where a unit is current, and what was written
--- of it and what is still to be written are the answer to that unit.
-pub record KeepsWriting {R S : Type 0} (tells : Bool) (rest : R → List Step) (site : Site) (script : Script) (peer : Peer) (writing : Writing R) (past : RightPast S) : Type 0 where
+-- Until it breaks, a job has an answer under way exactly where a unit is current, and what was
+-- written of it and what is still to be written are the answer to that unit.
+pub record KeepsWriting {R S : Type 0} (tells : Bool) (rest : R →
+    List Step) (site : Site) (script : Script) (peer : Peer) (writing : Writing R)
+    (past : RightPast S) : Type 0 where
   pub busy : past.broke ≡ None → is_busy writing ≡ is_some past.current
   pub gives : past.broke ≡ None → IsTrue tells → ForSome past.current (λ c.
       answer_for site script peer (asks c.unit) ≡ onto c.written (still_gives rest writing))
   -- the answer to what closes will close, or has closed, whether or not anybody tells
-  pub shuts : past.broke ≡ None → ForSome past.current (λ c. IsTrue (closing (asks c.unit)) → Shuts writing)
+  pub shuts : past.broke ≡ None → ForSome past.current (λ c. IsTrue (closing (asks c.unit)) →
+      Shuts writing)
   pub shut : list_any closing (map asks past.finished) ≡ true → past.closed ≡ true

@@ -1,17 +1,6 @@
 //! The answering side: the answer to the current unit goes into the output, one text at a time.
-ghost use Rattle.std.specs.Prelude.{
-  ◌≡◌,
-  ◌≤◌,
-  ◌<◌,
-  IfErr,
-  IfOk,
-  IsTrue,
-  None,
-  Some,
-  is_some,
-  true,
-  false,
-};
+ghost use Rattle.std.specs.Prelude.{◌≡◌, ◌≤◌, ◌<◌, IfErr, IfOk, IsTrue, None, Some, is_some, true};
+ghost use Rattle.std.specs.Prelude.{false};
 ghost use Rattle.proxy_trust.specs.Rules.{IsSound};
 ghost use Rattle.channel.specs.Acting.{output_length};
 ghost use Rattle.channel.specs.Agreement.{KeepsBroken, known_by};

@@ -1,46 +1,12 @@
 //! What a turn does to the state, one act at a time. Each end of a channel uses them, and so does a
 //! channel of one owner.
-ghost use Rattle.std.specs.Prelude.{
-  ◌≡◌,
-  ◌≤◌,
-  ◌<◌,
-  ◌++◌,
-  [],
-  ◌&&◌,
-  ◌||◌,
-  ◌==◌,
-  true,
-  false,
-  if◌then◌else◌,
-  Some,
-  None,
-  IsTrue,
-  is_some,
-  length,
-  nat_lt,
-  take,
-  min,
-  IfOk,
-  OnOk,
-  OnErr,
-};
+ghost use Rattle.std.specs.Prelude.{◌≡◌, ◌≤◌, ◌<◌, ◌++◌, [], ◌&&◌, ◌||◌, ◌==◌, true, false};
+ghost use Rattle.std.specs.Prelude.{if◌then◌else◌, Some, None, IsTrue, is_some, length, nat_lt};
+ghost use Rattle.std.specs.Prelude.{take, min, IfOk, OnOk, OnErr};
 ghost use Rattle.std.specs.Option.{ForSome};
-ghost use Rattle.channel.specs.Acting.{
-  Adds,
-  Begins,
-  CountsFault,
-  Skips,
-  Touches,
-  closing_by,
-  goes_on,
-  is_working,
-  over_of,
-  output_length,
-  ready_by,
-  spill_by,
-  spill_counted,
-  unit_count,
-};
+ghost use Rattle.channel.specs.Acting.{Adds, Begins, CountsFault, Skips, Touches, closing_by};
+ghost use Rattle.channel.specs.Acting.{goes_on, is_working, over_of, output_length, ready_by};
+ghost use Rattle.channel.specs.Acting.{spill_by, spill_counted, unit_count};
 ghost use Rattle.channel.specs.Agreement.{end_by};
 ghost use Rattle.outside.specs.declared.types.End.TheVariants as over;
 ghost use Rattle.channel.specs.State.{state_of};
@@ -163,8 +129,7 @@ impl<A, R: Drop, S: Spill + Drop> Shared<A, R, S> {
     }
 
     /// Puts a text of the current unit behind the output. Where it is the last one of it: whether
-    /// the
-    /// connection closes.
+    /// the connection closes.
     pub(crate) fn add(
         &mut self,
         alloc: Global,

@@ -1,18 +1,6 @@
 //! One connection, as its server sees it.
-ghost use Rattle.std.specs.Prelude.{
-  ◌≡◌,
-  ◌≤◌,
-  ◌<◌,
-  ◌⊎◌,
-  false,
-  None,
-  Some,
-  IsTrue,
-  IsSome,
-  IfOk,
-  IfErr,
-  length,
-};
+ghost use Rattle.std.specs.Prelude.{◌≡◌, ◌≤◌, ◌<◌, ◌⊎◌, false, None, Some, IsTrue, IsSome, IfOk};
+ghost use Rattle.std.specs.Prelude.{IfErr, length};
 ghost use Rattle.outside.specs.Link.{opened};
 ghost use Rattle.outside.specs.Net.{asked_of};
 ghost use Rattle.proxy_trust.specs.Rules.{IsSound};
@@ -21,32 +9,12 @@ ghost use Rattle.outside.specs.declared.types.End.{End as AnEnd};
 ghost use Rattle.outside.specs.declared.types.End.TheVariants as over;
 ghost use Rattle.channel.specs.declared.types.Acted.TheVariants as acted;
 ghost use Rattle.channel.specs.Output.{IsPrefix};
-ghost use Rattle.channel.specs.Owed.{owed_by};
+ghost use Rattle.channel.specs.Owed.{PutsAsked, owed_by};
 ghost use Rattle.channel.specs.Sides.{IsUsable};
-ghost use Rattle.channel.specs.Views.{
-  Advances,
-  CheckCause,
-  Checks,
-  DrainCause,
-  Drains,
-  EndsBy,
-  IsOver,
-  LinkGoes,
-  Moves,
-  ReadCause,
-  Reads,
-  Stamps,
-  StaysDead,
-  StaysOpen,
-  Stirs,
-  UnlessOver,
-  fresh,
-  is_due,
-  over_of,
-  telling,
-  view,
-  want_of,
-};
+ghost use Rattle.channel.specs.Views.{Advances, CheckCause, Checks, DrainCause, Drains, EndsBy};
+ghost use Rattle.channel.specs.Views.{IsOver, LinkGoes, Moves, ReadCause, Reads, Stamps, StaysDead};
+ghost use Rattle.channel.specs.Views.{StaysOpen, Stirs, UnlessOver, fresh, is_due, over_of};
+ghost use Rattle.channel.specs.Views.{telling, view, want_of};
 
 use crate::near::Near;
 use crate::shared::{Fixed, Shared};
@@ -244,6 +212,8 @@ impl<'a, L: Link + Drop, A: App<S>, S: Spill + Send + Drop> Lane<'a, L, A, S> {
               broken = result.0.broken;
               fallen = result.0.fallen;
             }) end }
+        ensures asked { IsTrue L.tells → PutsAsked self.entry.fixed.limits
+            (L.state result.0.link).arrivals self.entry.shown.put self.entry.shown.dead }
         ensures run { 0 < self.entry.shown.left → IsSome result.1 }
     {
         let Lane { channel } = self;

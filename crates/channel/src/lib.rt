@@ -7,6 +7,7 @@ mod draining;
 mod far;
 mod functions;
 mod lane;
+mod laws;
 mod near;
 mod noting;
 mod pact;
@@ -18,6 +19,7 @@ mod writing;
 
 pub use acts::{LeftAct, RightAct};
 pub use lane::{Lane, ROOM, open_lane};
+pub use laws::responses_grow;
 pub use noting::{LeftEntry, RightEntry};
 pub use pact::ChannelPact;
 pub use shared::{Fixed, Shared};

@@ -1,44 +1,16 @@
 //! The polling side: what it has for itself, and how a call of it concludes.
-ghost use Rattle.std.specs.Prelude.{
-  ◌≡◌,
-  is_some,
-  ◌∷◌,
-  [],
-  ℕ,
-  false,
-  true,
-  ◌<◌,
-  ◌+◌,
-  ◌&&◌,
-  ◌||◌,
-  IsTrue,
-  None,
-  Some,
-  if◌then◌else◌,
-};
+ghost use Rattle.std.specs.Prelude.{◌≡◌, is_some, ◌∷◌, [], ℕ, false, true, ◌<◌, ◌+◌, ◌&&◌, ◌||◌};
+ghost use Rattle.std.specs.Prelude.{IsTrue, None, Some, if◌then◌else◌};
 ghost use Rattle.channel.specs.Acting.{has_counted, over_of, spill_by, spill_counted};
 ghost use Rattle.channel.specs.Agreement.{known_by};
 ghost use Rattle.channel.specs.Happening.{Concludes, as_acted, over_or};
 ghost use Rattle.request_stream.specs.Reading.{ArePositive};
 ghost use Rattle.channel.specs.Histories.{LeftPast, RightPast, left_turn};
-ghost use Rattle.channel.specs.Sides.{
-  IsSameNear,
-  Sees,
-  Side,
-  TurnsLeft,
-  TurnsNear,
-  is_breaking,
-  is_readable,
-  linked,
-  side_of,
-  view_of,
-};
+ghost use Rattle.channel.specs.Sides.{IsSameNear, Sees, Side, TurnsLeft, TurnsNear, is_breaking};
+ghost use Rattle.channel.specs.Sides.{is_readable, linked, side_of, view_of};
 ghost use Rattle.channel.specs.State.{State, state_of};
-ghost use Rattle.channel.specs.declared.acts.LeftAct.TheVariants.{
-  Buried as buried,
-  Killed as
-      killed,
-};
+ghost use Rattle.channel.specs.declared.acts.LeftAct.TheVariants.{Buried as buried};
+ghost use Rattle.channel.specs.declared.acts.LeftAct.TheVariants.{Killed as killed};
 ghost use Rattle.outside.specs.declared.types.End.TheVariants as over;
 
 use crate::functions::spill_of;
@@ -279,8 +251,7 @@ pub(crate) fn kill<A, R: Drop, S: Spill + Drop>(
 }
 
 // A spill failed in this turn, and the channel ends: what broke is taken out at once. Where no
-// spill is
-// given it is that of the output.
+// spill is given it is that of the output.
 pub(crate) fn end_broken<A, R: Drop, S: Spill + Drop>(
     state: &mut Shared<A, R, S>,
     broken: Option<S>,

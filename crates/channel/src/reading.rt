@@ -10,7 +10,7 @@ use crate::noting::{LeftEntry, Looked, Puts};
 use crate::shared::Shared;
 use crate::types::Acted;
 use outside::{End, Link, Recv, Spill, Spills, tell};
-use request_stream::StreamFault;
+use request_stream::{StreamFault, units_grow};
 use std::alloc::Global;
 use wsgi::App;
 
@@ -42,6 +42,7 @@ impl<L: Link + Drop, A: App<S>, S: Spill + Send + Drop> Near<L, A, S> {
         ensures asked { IfAsked true result.0 None }
         ensures spills { P.faults spills.new ≡ P.faults spills.old }
     {
+        units_grow();
         self.touched = now;
         match self.stream.feed(alloc, now, piece, spills) {
             Ok(units) => {

@@ -9,17 +9,10 @@ ghost use Rattle.channel.specs.Agreement.{Agrees, known_by};
 ghost use Rattle.channel.specs.Happening.{CheckCalls, DrainCalls, ReadCalls};
 ghost use Rattle.channel.specs.Histories.{left_past, right_past};
 ghost use Rattle.channel.specs.Output.{IsPrefix};
-ghost use Rattle.channel.specs.Owed.{owed_by};
+ghost use Rattle.channel.specs.Owed.{PutsAsked, owed_by};
 ghost use Rattle.channel.specs.Showing.{shown_of};
-ghost use Rattle.channel.specs.Sides.{
-  Answers,
-  IsSameNear,
-  IsUsable,
-  KeepsSide,
-  linked,
-  side_of,
-  view_of,
-};
+ghost use Rattle.channel.specs.Sides.{Answers, IsSameNear, IsUsable, KeepsSide, linked, side_of};
+ghost use Rattle.channel.specs.Sides.{view_of};
 ghost use Rattle.channel.specs.State.{state_of};
 ghost use Rattle.channel.specs.Views.{Advances, EndsBy, Moves, Stirs, is_due, telling, want_of};
 ghost use Rattle.channel.specs.Writing.{KeepsWriting, is_scripted, is_settled, steps_left};
@@ -277,7 +270,8 @@ impl<'a, L: Link + Drop, A: App<S>, S: Spill + Send + Drop> Channel<'a, L, A, S>
         ensures peer { result.0.peer ≡ self.entry.near.peer }
         ensures sent { IsTrue (telling L.tells S.tells A.tells).all →
             IsPrefix (L.state result.0.link).sent
-            (owed_by A.script self.entry.state.fixed.value (L.state result.0.link).arrivals).output }
+            (owed_by A.script self.entry.state.fixed.value
+            (L.state result.0.link).arrivals).output }
         ensures ends { (end : AnEnd) → over_of (state_of self.entry.state) self.entry.near.ended ≡
             Some end →
             EndsBy (telling L.tells S.tells A.tells) (record {
@@ -293,6 +287,9 @@ impl<'a, L: Link + Drop, A: App<S>, S: Spill + Send + Drop> Channel<'a, L, A, S>
               broken = result.0.broken;
               fallen = result.0.fallen;
             }) end }
+        ensures asked { IsTrue L.tells → PutsAsked self.entry.state.fixed.value.limits
+            (L.state result.0.link).arrivals
+            (length (left_past self.entry.acts.value.left).put) self.entry.state.dead }
         ensures run { 0 < steps_left A.Run.left self.entry.writing → IsSome result.1 }
     {
         let Channel {

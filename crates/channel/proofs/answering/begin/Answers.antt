@@ -8,14 +8,17 @@ use Rattle.channel.proofs.answering.begin.Goals as goal
 pub returns-in_ok-continue_text-in-Continue-clause-answer :
     goal.returns-in_ok-continue_text-in-Continue-clause-answer
 returns-in_ok-continue_text-in-Continue-clause-answer g c = λ _.
-    ap (λ u. answer_for c.args.site.now (g.A.App.script c.args.app.now) c.args.peer.now (asks u)) c.in-Continue.is
+    ap (λ u. answer_for c.args.site.now (g.A.App.script c.args.app.now) c.args.peer.now (asks u))
+    c.in-Continue.is
     ∙ (by_continue c.args.site.now (g.A.App.script c.args.app.now) c.args.peer.now
     ∙ ap (λ (t : List ℕ). record { text = t; closes = false }) (sym (search rules)))
 
 pub returns-in_ok-text-in-Refused-clause-answer : goal.returns-in_ok-text-in-Refused-clause-answer
 returns-in_ok-text-in-Refused-clause-answer g c = λ _.
-    ap (λ u. answer_for c.args.site.now (g.A.App.script c.args.app.now) c.args.peer.now (asks u)) c.in-Refused.is
-    ∙ (by_refusal c.args.site.now (g.A.App.script c.args.app.now) c.args.peer.now c.in-Refused.refused
+    ap (λ u. answer_for c.args.site.now (g.A.App.script c.args.app.now) c.args.peer.now (asks u))
+    c.in-Refused.is
+    ∙ (by_refusal c.args.site.now (g.A.App.script c.args.app.now) c.args.peer.now
+    c.in-Refused.refused
     ∙ ap (λ (t : List ℕ). record { text = t; closes = true }) (sym c.in_ok-text-in-Refused.ensures))
 
 pub returns-in_ok-continue_text-in-Continue-clause-shuts :

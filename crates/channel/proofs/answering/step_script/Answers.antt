@@ -8,5 +8,7 @@ returns-in-Some-clause-step g c = record {
   busy = refl;
   gives = search rules;
   takes = tt;
-  shuts = λ shuts _. ends_shut (remaining c.args.script.task) (remaining c.step.new.self) c.in-Ok.step c.in_ok-wrote.wrote c.in_ok-wrote.ensures.answer shuts c.in-Some.closes c.in-Some.is;
+  shuts = λ shuts _. ends_shut (remaining c.args.script.task)
+      (remaining c.step.new.self) c.in-Ok.step c.in_ok-wrote.wrote c.in_ok-wrote.ensures.answer
+      shuts c.in-Some.closes c.in-Some.is;
 }

@@ -1,4 +1,5 @@
-use Rattle.std.proofs.Common.{rules, ◌≡◌, ◌∙◌, ◌++◌, ◌+◌, ◌<◌, [], true, false, sym, ap, refl, None, append-nil}
+use Rattle.std.proofs.Common.{rules, ◌≡◌, ◌∙◌, ◌++◌, ◌+◌, ◌<◌, [], true, false, sym, ap, refl, None}
+use Rattle.std.proofs.Common.{append-nil}
 use Rattle.outside.specs.declared.types.End.TheVariants as over
 use Rattle.request_stream.specs.Units.{units}
 use Rattle.channel.specs.Acting.{is_done, over_of}
@@ -20,7 +21,9 @@ pub returns-then-not-is_timed_out-clause-calls : goal.returns-then-not-is_timed_
 returns-then-not-is_timed_out-clause-calls g c = λ l r left.
     let no : c.is_timed_out.result ≡ false = search rules in
     let on_time = c.is_timed_out.ensures.on_time no in
-    check_on_time _ _ _ _ _ _ (c.send_some-moved.ensures.says l r left) _ (c.conclude.ensures.concludes l r left) _ c.conclude.ensures.over (rw c.send_some-moved.ensures.turns.same.window at on_time)
+    check_on_time _ _ _ _ _ _ (c.send_some-moved.ensures.says l r left) _
+    (c.conclude.ensures.concludes l r left) _ c.conclude.ensures.over
+    (rw c.send_some-moved.ensures.turns.same.window at on_time)
 
 pub returns-clause-turns : goal.returns-clause-turns
 returns-clause-turns g c =
@@ -28,18 +31,28 @@ returns-clause-turns g c =
     let mid = c.send_some-moved.new.state in
     let yes' : c.is_timed_out.result ≡ true = search rules in
     let still : over_of (state_of mid) near.ended ≡ None = c.is_timed_out.ensures.open yes' in
-    let none : mid.dead ≡ None = over_none mid.dead (is_done (state_of mid) near.ended) None (sym still) refl in
+    let none : mid.dead ≡ None = over_none mid.dead (is_done (state_of mid) near.ended) None
+    (sym still) refl in
     let was_late = c.is_timed_out.ensures.late yes' in
     let late : near.touched + near.window.timeout < c.args.now = late_of _ _ _ was_late in
     let window : near.window.timeout ≡ mid.fixed.value.window.timeout
-    = ap (λ w. w.timeout) (c.send_some-moved.ensures.turns.same.window ∙ c.requires.window) ∙ ap (λ f. f.value.window.timeout) (sym c.send_some-moved.ensures.turns.side.fixed) in
-    let told : c.tell.result.value ≡ c.send_some-moved.result.1.value ++ c.kill-ends.result.value = search rules in
+    = ap (λ w. w.timeout) (c.send_some-moved.ensures.turns.same.window ∙ c.requires.window)
+    ∙ ap (λ f. f.value.window.timeout) (sym c.send_some-moved.ensures.turns.side.fixed) in
+    let told : c.tell.result.value ≡ c.send_some-moved.result.1.value ++ c.kill-ends.result.value =
+    search rules in
     record {
-      side = left_then _ _ _ _ _ _ _ _ c.kill-ends.result _ told c.send_some-moved.ensures.turns.side
-          (left_kills _ _ _ _ _ _ none refl refl (over.TimedOut near.touched c.args.now) [] [] (λ e. cc) refl c.kill-ends.ensures.now c.kill-ends.ensures.told refl (sym (append-nil near.stream.fed))
-          (ap (units near.stream.limits) (append-nil near.stream.fed) ∙ sym (append-nil _)) (λ e. refl) (λ t. sym (append-nil _)) (λ t. refl) (λ w. w) (λ w. w) (λ e. cc)
-          (timed_of near.touched c.args.now near.window.timeout mid.fixed.value.window.timeout window late)
-          (λ at n e t free. late_idle _ _ c.args.self.now.window _ _ _ (c.send_some-moved.ensures.says left_start right_start 0) still (rw c.send_some-moved.ensures.turns.same.window at was_late) t free));
+      side = left_then _ _ _ _ _ _ _ _ c.kill-ends.result _ told
+          c.send_some-moved.ensures.turns.side
+          (left_kills _ _ _ _ _ _ none refl refl (over.TimedOut near.touched c.args.now) [] []
+          (λ e. cc) refl c.kill-ends.ensures.now c.kill-ends.ensures.told refl
+          (sym (append-nil near.stream.fed))
+          (ap (units near.stream.limits) (append-nil near.stream.fed) ∙ sym (append-nil _))
+          (λ e. refl) (λ t. sym (append-nil _)) (λ t. refl) (λ w. w) (λ w. w) (λ e. cc)
+          (timed_of near.touched c.args.now near.window.timeout mid.fixed.value.window.timeout
+          window late)
+          (λ at n e t free. late_idle _ _ c.args.self.now.window _ _ _
+          (c.send_some-moved.ensures.says left_start right_start 0) still
+          (rw c.send_some-moved.ensures.turns.same.window at was_late) t free));
       same = record {
         window = c.send_some-moved.ensures.turns.same.window;
         peer = c.send_some-moved.ensures.turns.same.peer;
@@ -54,7 +67,11 @@ returns-clause-calls g c = λ l r left.
     let mid = c.send_some-moved.new.state in
     let yes' : c.is_timed_out.result ≡ true = search rules in
     let was_late = c.is_timed_out.ensures.late yes' in
-    let told : c.tell.result.value ≡ c.send_some-moved.result.1.value ++ c.kill-ends.result.value = search rules in
+    let told : c.tell.result.value ≡ c.send_some-moved.result.1.value ++ c.kill-ends.result.value =
+    search rules in
     check_late _ _ _ _ _ _ (c.send_some-moved.ensures.says l r left) _
-    (view_dies (linked g.L.Link.tells g.L.Link.state g.L.Link.faults g.L.Link.key g.L.Link.plan) near (state_of mid) (state_of c.kill-ends.new.state) l r left c.send_some-moved.result.1 c.kill-ends.result c.tell.result c.args.now told c.kill-ends.ensures.now c.kill-ends.ensures.told)
+    (view_dies (linked g.L.Link.tells g.L.Link.state g.L.Link.faults g.L.Link.key g.L.Link.plan)
+    near (state_of mid) (state_of c.kill-ends.new.state) l r left c.send_some-moved.result.1
+    c.kill-ends.result c.tell.result c.args.now told c.kill-ends.ensures.now
+    c.kill-ends.ensures.told)
     (c.is_timed_out.ensures.open yes') (rw c.send_some-moved.ensures.turns.same.window at was_late)

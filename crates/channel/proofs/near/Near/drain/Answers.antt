@@ -10,4 +10,5 @@ returns-clause-turns g c = record {
 
 pub returns-clause-calls : goal.returns-clause-calls
 returns-clause-calls g c = λ l r left.
-    drain_calls _ _ _ _ _ _ (c.send_some-moved.ensures.says l r left) _ (c.conclude.ensures.concludes l r left) _ c.conclude.ensures.over
+    drain_calls _ _ _ _ _ _ (c.send_some-moved.ensures.says l r left) _
+    (c.conclude.ensures.concludes l r left) _ c.conclude.ensures.over

@@ -10,4 +10,5 @@ returns-clause-turns g c = record {
 
 pub returns-clause-calls : goal.returns-clause-calls
 returns-clause-calls g c = λ l r left.
-    read_calls _ _ _ _ _ _ _ _ (c.receive_some-moved.ensures.hears l r left) (c.conclude.ensures.concludes l r left) c.conclude.ensures.over
+    read_calls _ _ _ _ _ _ _ _ (c.receive_some-moved.ensures.hears l r left)
+    (c.conclude.ensures.concludes l r left) c.conclude.ensures.over

@@ -2,7 +2,9 @@ use Rattle.std.proofs.Common.{rules, take}
 use Rattle.channel.specs.Sides.{Came, linked}
 use Rattle.channel.proofs.near.Near.receive.Goals as goal
 
-came : (g : _) (c : goal.After-take_in g) → Came (linked g.L.Link.tells g.L.Link.state g.L.Link.faults g.L.Link.key g.L.Link.plan) c.args.now (take c.in-Got.count c.recv.new.into) c.args.self.now.link c.recv.new.self
+came : (g : _) (c : goal.After-take_in g) → Came (linked g.L.Link.tells g.L.Link.state
+    g.L.Link.faults g.L.Link.key g.L.Link.plan) c.args.now
+    (take c.in-Got.count c.recv.new.into) c.args.self.now.link c.recv.new.self
 came g c = record {
   told = c.in-Got.ensures.told;
   faults = search rules;
