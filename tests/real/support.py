@@ -37,13 +37,8 @@ class NotServed(Exception):
 
 
 def serve(test, *application):
-    """Serves an application until the test has ended, or skips the test where it isn't built."""
-    try:
-        return test.enterContext(Server(application=application))
-    except NotServed as ended:
-        if "not built" in str(ended):
-            test.skipTest(f"{application[0]} is not built yet")
-        raise
+    """Serves an application until the test has ended."""
+    return test.enterContext(Server(application=application))
 
 
 class Server:

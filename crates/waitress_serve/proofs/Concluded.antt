@@ -7,8 +7,6 @@ use Rattle.std.proofs.Common.{
   inl,
   inr,
   ℕ,
-  zero,
-  suc,
   Bool,
   true,
   false,
@@ -26,16 +24,19 @@ use Rattle.std.proofs.Common.{
   append-nil,
   length-append,
 }
-use Rattle.std.specs.Prelude.{Option, None, Some, Result, Ok, Err, ◌&&◌}
+use Rattle.std.specs.Prelude.{All, ◌<◌, ◌∷◌, Option, None, Some, Result, Ok, Err, ◌&&◌}
 use Rattle.std.proofs.lemmas.List.{length-map}
+use Rattle.std.proofs.lemmas.List.Elements.{All-head}
 use Rattle.std.proofs.lemmas.List.Sorted.{IsPermutation-refl, length_permutation}
 use Rattle.adjust.specs.declared.types.Adjustments.{Adjustments}
-use Rattle.channel.specs.Output.{Script}
-use Rattle.channel.specs.Views.{Telling, telling}
-use Rattle.outside.specs.Causes.{Rose, added, raised}
+use Rattle.channel.specs.Output.{Input, IsPrefix, Script}
+use Rattle.channel.specs.Views.{IsServed, Owed, Telling, telling}
+use Rattle.outside.specs.Causes.{Rose, added}
 use Rattle.outside.specs.Link.{LinkState}
 use Rattle.outside.specs.Net.{NetState}
 use Rattle.outside.specs.declared.retired.Retired.{Retired}
+use Rattle.outside.specs.declared.types.End.{End}
+use Rattle.outside.specs.declared.types.End.TheVariants as over
 use Rattle.outside.specs.declared.types.Listen.{Listen}
 use Rattle.outside.specs.declared.types.Peer.{Peer}
 use Rattle.poll_loop.specs.Accounts.{
@@ -50,7 +51,14 @@ use Rattle.poll_loop.specs.Accounts.{
   retired_of,
 }
 use Rattle.poll_loop.specs.Connections.{HasBroken, going_on, service_by, shutting_down}
-use Rattle.poll_loop.specs.Entries.{EntryHolds, Grounds, Service, spill_faults}
+use Rattle.poll_loop.specs.Entries.{
+  EndHolds,
+  EntryHolds,
+  Grounds,
+  Service,
+  app_faults,
+  spill_faults,
+}
 use Rattle.poll_loop.specs.Lists.{EachIs}
 use Rattle.poll_loop.specs.Seat.{Eyes}
 use Rattle.poll_loop.specs.declared.settings.Going.TheVariants as going
@@ -65,6 +73,7 @@ use Rattle.waitress_serve.specs.Conclusions.{
   DoneAdds,
   DoneStops,
   FailsUnstopped,
+  Fell,
   IsDownBy,
   IsOfServing,
   NetLeaves,
@@ -72,6 +81,7 @@ use Rattle.waitress_serve.specs.Conclusions.{
   OutLeaves,
   PollCount,
   Ran,
+  RanOver,
   ServedAll,
   conclusion_of,
 }
@@ -79,15 +89,18 @@ use Rattle.waitress_serve.specs.Headline.{
   Added,
   KeepsLimit,
   RetiresGiven,
+  SettlesRuns,
   SettlesSpills,
   ShutLast,
   WentDown,
   grounds,
 }
-use Rattle.waitress_serve.specs.Owed.{owed_by, service_for, service_with}
+use Rattle.waitress_serve.specs.Made.{Files, reads_files}
+use Rattle.waitress_serve.specs.Owed.{owed_by, service_for, service_with, told_by}
+use Rattle.waitress_serve.specs.Reading.{Reading}
 use Rattle.waitress_serve.specs.Reports.{Unwritten, Written}
 use Rattle.waitress_serve.specs.Settings.{settings_for}
-use Rattle.waitress_serve.specs.Status.{MeetsLimit, Reading, ToldStop, timeout_by}
+use Rattle.waitress_serve.specs.Status.{MeetsLimit, ToldStop, timeout_by}
 use Rattle.waitress_serve.specs.declared.conclusion.Conclusion.{Conclusion}
 use Rattle.waitress_serve.specs.declared.conclusion.Conclusion.TheVariants as conclusion
 use Rattle.waitress_serve.proofs.Ends.{
@@ -97,7 +110,8 @@ use Rattle.waitress_serve.proofs.Ends.{
   each_front,
   each_map,
   each_none,
-  none_spilled,
+  none_counted,
+  none_failed,
   not_shut,
   weaker_entry,
 }
@@ -122,6 +136,24 @@ nothing_settled {L} old new before now closed same = record {
   counted = let none : spill_faults {L = L} [] ≡ 0 = refl in omega (arith, none, same);
 }
 
+-- no entry of a run was settled
+pub no_run_settled : {L : Type 0} (old new : List (Retired L)) (before now : ℕ) → new ≡ old →
+    now ≡ before → SettlesRuns before now old new
+no_run_settled {L} old new before now closed same = record {
+  entries = [];
+  whole = closed ∙ sym (append-nil old);
+  counted = let none : app_faults {L = L} [] ≡ 0 = refl in omega (arith, none, same);
+}
+
+-- no run fell
+nothing_fell : {L : Type 0} (fallen : ℕ) (old new : List (Retired L)) → fallen ≡ 0 → new ≡ old →
+    Fell fallen old new
+nothing_fell {L} fallen old new none closed = record {
+  entries = [];
+  whole = closed ∙ sym (append-nil old);
+  count = let zero : app_faults {L = L} [] ≡ 0 = refl in none ∙ sym zero;
+}
+
 -- nobody came and nobody was retired
 pub nobody_given : {L P : Type 0} (plan : L → P) (old new : NetState L P) → new.given ≡ old.given →
     new.closed ≡ old.closed → RetiresGiven plan old new
@@ -138,6 +170,7 @@ adds_nothing : {E : Type 0} (Holds : E → Type 0) (c : Conclusion) (old new : L
 adds_nothing Holds conclusion.Done old new same = nothing_added Holds old new same
 adds_nothing Holds (conclusion.Usage fault) old new same = tt
 adds_nothing Holds conclusion.NotBuilt old new same = tt
+adds_nothing Holds (conclusion.Unmade why) old new same = tt
 adds_nothing Holds conclusion.BindFailed old new same = tt
 adds_nothing Holds conclusion.Unprinted old new same = tt
 adds_nothing Holds conclusion.PollFailed old new same = tt
@@ -149,6 +182,7 @@ still_unstopped conclusion.PollFailed old new same = λ stop. subst IsTrue same 
 still_unstopped conclusion.Done old new same = tt
 still_unstopped (conclusion.Usage fault) old new same = tt
 still_unstopped conclusion.NotBuilt old new same = tt
+still_unstopped (conclusion.Unmade why) old new same = tt
 still_unstopped conclusion.BindFailed old new same = tt
 still_unstopped conclusion.Unprinted old new same = tt
 still_unstopped conclusion.NoMemory old new same = tt
@@ -158,17 +192,18 @@ pub stays : {L P : Type 0} (c : Conclusion) (net : NetState L P) → NetLeaves c
 stays conclusion.Done net = tt
 stays (conclusion.Usage fault) net = refl
 stays conclusion.NotBuilt net = refl
+stays (conclusion.Unmade why) net = refl
 stays conclusion.BindFailed net = refl
 stays conclusion.Unprinted net = record { polls = refl; closed = refl }
 stays conclusion.PollFailed net = tt
 stays conclusion.NoMemory net = tt
 
 -- nothing was done to the net but a bind
-pub ran_none : {L P : Type 0} (service : Service) (broke : Type 0) (e : Eyes L P)
+pub ran_none : {L P : Type 0} (service : Service) (broke : Type 0) (fallen : ℕ) (e : Eyes L P)
     (listen : List Listen) (c : Conclusion) (before now : ℕ) (old new : NetState L P)
-    (bound : Option (List Listen)) → new ≡ record old { bound = bound } → now ≡ before →
-    NetLeaves c old new → Ran service broke e listen c before now old new
-ran_none service broke e listen c before now old new bound is same leaves = record {
+    (bound : Option (List Listen)) → fallen ≡ 0 → new ≡ record old { bound = bound } →
+    now ≡ before → NetLeaves c old new → Ran service broke fallen e listen c before now old new
+ran_none service broke fallen e listen c before now old new bound none is same leaves = record {
   headline = nothing_added _ old.closed new.closed (ap (λ s. s.closed) is);
   shut_last = inl (ap (λ s. s.closed) is);
   given = nobody_given e.plan old new (ap (λ s. s.given) is) (ap (λ s. s.closed) is);
@@ -177,6 +212,7 @@ ran_none service broke e listen c before now old new bound is same leaves = reco
   bound = λ more. let p : new.polls ≡ old.polls = ap (λ s. s.polls) is in absurd
       (omega (arith, more, p));
   settled = nothing_settled old.closed new.closed before now (ap (λ s. s.closed) is) same;
+  fell = nothing_fell fallen old.closed new.closed none (ap (λ s. s.closed) is);
   net = leaves;
   unstopped = still_unstopped c old new (ap (λ s. s.stopped) is);
   complete = λ none told all quiet still brief. adds_nothing _ c old.closed new.closed
@@ -300,28 +336,24 @@ module _ {L P : Type 0} (service : Service) (broke : Type 0) (e : Eyes L P) (lis
   nobody_by (Err fault.Net) nobody ends done quiet = cc
   nobody_by (Err fault.NoMemory) nobody ends done quiet = cc
 
-  none_spilled_of : IsStill before now → spill_faults (s.before ++ s.after) ≡ 0
-  none_spilled_of still = by (spill_faults (s.before ++ s.after)) s.spilled
-    where
-      by : (n : ℕ) → added before n ≤ now → n ≡ 0
-      by zero counted = refl
-      by (suc n) counted = let rose : raised before ≤ now =
-          omega (arith, counted) in absurd (still rose)
+  fell_count : fallen ≡ app_faults (s.before ++ s.after)
+  fell_count = let count = s.fell in omega (arith, count)
 
   -- where nothing happened, each was answered
   answered : (r : Result Going ServeFault) → NobodyShut r s.after → ServeEnds r limit 0 mid new →
       conclusion_of r ≡ conclusion.Done →
-      (broke → ⊥) → IsTrue service.tells.link → IsTrue service.tells.all → IsTrue old.quiet →
+      fallen ≡ 0 → IsTrue service.tells.link → IsTrue service.tells.all → IsTrue old.quiet →
       IsStill before now → IsBrief service.timeout new →
       Added (IsAnswered e.state e.faults service.owed) old.closed new.closed
   answered r nobody ends done none told all quiet still brief =
-      let unspilled = none_spilled (s.before ++ s.after) (none_spilled_of still) in
+      let unspilled = none_failed (s.before ++ s.after) (none_counted before now _ still s.spilled)
+      (sym fell_count ∙ none) in
       record {
         entries = s.before ++ s.after;
         whole = closed_is;
         each = each_append _ s.before s.after
             (each_both _ _ _ (λ entry h unspilt faultless.
-            answered_end service broke new none told all brief (e.state entry.link)
+            answered_end service broke new told all brief (e.state entry.link)
             (e.faults entry.link) _ entry.end h.timely h.cause unspilt faultless)
             s.before s.each (each_front _ s.before s.after unspilled))
             (each_none _ s.after (nobody_by r nobody ends done
@@ -329,7 +361,7 @@ module _ {L P : Type 0} (service : Service) (broke : Type 0) (e : Eyes L P) (lis
       }
 
   complete : (r : Result Going ServeFault) → NobodyShut r s.after → ServeEnds r limit 0 mid new →
-      AnswersAll service broke e (conclusion_of r) before now old new
+      AnswersAll service fallen e (conclusion_of r) before now old new
   complete (Ok going) nobody ends = answered (Ok going) nobody ends refl
   complete (Err fault.Net) nobody ends = λ none told all quiet still brief. tt
   complete (Err fault.NoMemory) nobody ends = λ none told all quiet still brief. tt
@@ -345,8 +377,8 @@ module _ {L P : Type 0} (service : Service) (broke : Type 0) (e : Eyes L P) (lis
   leaves (Err fault.Net) = tt
   leaves (Err fault.NoMemory) = tt
 
-  ran : ServeEnds result limit 0 mid new → Ran service broke e listen (conclusion_of result) before
-      now old new
+  ran : ServeEnds result limit 0 mid new → Ran service broke fallen e listen (conclusion_of result)
+      before now old new
   ran ends = record {
     headline = headline ends;
     shut_last = shut_last;
@@ -355,6 +387,7 @@ module _ {L P : Type 0} (service : Service) (broke : Type 0) (e : Eyes L P) (lis
     quiet = s.quiet ∙ ap (λ m. m.quiet) is;
     bound = λ more. s.bound ∙ ap (λ m. m.bound) is;
     settled = record { entries = s.before ++ s.after; whole = closed_is; counted = s.spilled };
+    fell = record { entries = s.before ++ s.after; whole = closed_is; count = fell_count };
     net = leaves result;
     unstopped = unstopped result ends;
     complete = complete result s.nobody ends;
@@ -397,32 +430,32 @@ module _ {L P : Type 0} (service : Service) (broke : Type 0) (e : Eyes L P) (lis
 
 -- a server with these options served, behind a bind
 module _ {L P A : Type 0} (tells : Telling) (script : A → Script) (app : A) (options : Adjustments)
-    (broke : Type 0) (e : Eyes L P) (listen : List Listen)
+    (broke : Type 0) (fallen : ℕ) (e : Eyes L P) (listen : List Listen)
     (before now : ℕ) (old mid new : NetState L P) (is : mid ≡ record old { bound = Some listen })
     (result : Result Going ServeFault)
     (c : Conclusion) (concludes : c ≡ conclusion_of result) (settings : Settings)
     (by : settings ≡ settings_for options)
-    (all : ServedAll result (service_by tells script settings app) broke e before now mid new)
-    (ends : ServeEnds result settings.serve_limit 0 mid new) where
-  all_by : ServedAll result (service_by tells script (settings_for options) app) broke e before now
-      mid new
-  all_by = subst (λ x. ServedAll result (service_by tells script x app) broke e before now mid new)
-      by all
+    (all : ServedAll result (service_by tells script settings app) broke fallen e before now mid
+    new) (ends : ServeEnds result settings.serve_limit 0 mid new) where
+  all_by : ServedAll result (service_by tells script (settings_for options) app) broke fallen e
+      before now mid new
+  all_by = subst (λ x. ServedAll result (service_by tells script x app) broke fallen e before now
+      mid new) by all
 
   ends_by : ServeEnds result options.serve_limit 0 mid new
   ends_by = subst (λ x. ServeEnds result x.serve_limit 0 mid new) by ends
 
-  pub started_ran : Ran (service_with tells options (script app)) broke e listen c before now old
-      new
-  started_ran = subst (λ x. Ran (service_with tells options (script app)) broke e listen x before
-      now old new) (sym concludes)
+  pub started_ran : Ran (service_with tells options (script app)) broke fallen e listen c before now
+      old new
+  started_ran = subst (λ x. Ran (service_with tells options (script app)) broke fallen e listen x
+      before now old new) (sym concludes)
       (ran (service_with tells options (script app)) broke e listen options.serve_limit before now
-      old mid new is result all_by.fallen all_by.who all_by.served ends_by)
+      old mid new is result fallen all_by.who all_by.served ends_by)
 
   pub started_stops : DoneStops options.serve_limit c old new
   started_stops = subst (λ x. DoneStops options.serve_limit x old new) (sym concludes)
       (stops (service_with tells options (script app)) broke e listen options.serve_limit before now
-      old mid new is result all_by.fallen all_by.who all_by.served ends_by)
+      old mid new is result fallen all_by.who all_by.served ends_by)
 
 -- ---- counts, by how serving ended
 
@@ -472,43 +505,134 @@ added_for service g h downs breaks state faults net old new a = record {
   each = each_map _ _ (weaker_entry service g h downs breaks state faults net) a.entries a.each;
 }
 
--- no run of the application can break
-pub ran_unbroken : {L P : Type 0} (service : Service) (broke : Type 0) (none : broke → ⊥)
+-- by what is judged who is owed this
+abbrev pub judged : Bool → Bool → ℕ → (Peer → Input → Owed) → Service
+judged link all timeout owed =
+    record { tells = record { link = link; all = all }; timeout = timeout; owed = owed }
+
+-- by another that tells only where this one does, and then owes the same
+module _ {L P : Type 0} (link all all' : Bool) (timeout : ℕ) (owed owed' : Peer → Input → Owed)
+    (knows : IsTrue all' → IsTrue all × (owed ≡ owed')) (broke broke' : Type 0)
+    (breaks : broke → broke') where
+  told_end : (g : Grounds) (net : NetState L P) (state : LinkState) (count : ℕ) (peer : Peer)
+      (x : Input) (end : End) →
+      EndHolds (judged link all timeout owed) g net state count (owed peer x) end →
+      EndHolds (judged link all' timeout owed') g net state count (owed' peer x) end
+  told_end g net state count peer x over.Done is = λ told.
+      subst (λ o. IsServed state (o peer x)) (knows told).1 (is (knows told).0)
+  told_end g net state count peer x over.LinkFault is = is
+  told_end g net state count peer x over.SpillFault is = is
+  told_end g net state count peer x over.AppFault is = is
+  told_end g net state count peer x over.NoMemory is = is
+  told_end g net state count peer x (over.TimedOut touched now) is = (
+    record {
+      touched_is = is.0.touched_is;
+      late = is.0.late;
+      idle = λ told. subst (λ o. (state.sent ≡ (o peer x).output) ⊎ IsTrue state.choked)
+          (knows told).1 (is.0.idle (knows told).0);
+    },
+    is.1,
+  )
+  told_end g net state count peer x over.ShutDown is = is
+
+  told_entry : (g : Grounds) (state : L → LinkState) (faults : L → ℕ) (net : NetState L P)
+      (entry : Retired L) →
+      EntryHolds (judged link all timeout owed) g state faults net entry →
+      EntryHolds (judged link all' timeout owed') g state faults net entry
+  told_entry g state faults net entry is = record {
+    prefix = λ told. subst (λ o. IsPrefix (state entry.link).sent
+        (o entry.peer (state entry.link).arrivals).output) (knows told).1
+        (is.prefix (knows told).0);
+    timely = is.timely;
+    cause = told_end g net (state entry.link) (faults entry.link) entry.peer
+        (state entry.link).arrivals entry.end is.cause;
+  }
+
+  pub ran_told : (fallen : ℕ) (e : Eyes L P) (listen : List Listen) (c : Conclusion)
+      (before now : ℕ) (old new : NetState L P) →
+      Ran (judged link all timeout owed) broke fallen e listen c before now old new →
+      Ran (judged link all' timeout owed') broke' fallen e listen c before now old new
+  ran_told fallen e listen c before now old new r = record {
+    headline = added_for (judged link all' timeout owed') (grounds (IsDownBy c old new) broke)
+        (grounds (IsDownBy c old new) broke') (λ d. d) breaks e.state e.faults new old.closed
+        new.closed
+        (record {
+          entries = r.headline.entries;
+          whole = r.headline.whole;
+          each =
+              each_map _ _ (told_entry (grounds (IsDownBy c old new) broke) e.state e.faults new)
+              r.headline.entries r.headline.each;
+        });
+    shut_last = r.shut_last;
+    given = r.given;
+    live = r.live;
+    quiet = r.quiet;
+    bound = r.bound;
+    settled = r.settled;
+    fell = r.fell;
+    net = r.net;
+    unstopped = r.unstopped;
+    complete = λ none linked told quiet still brief. subst
+        (λ o. DoneAdds (IsAnswered e.state e.faults o) c old.closed new.closed) (knows told).1
+        (r.complete none linked (knows told).0 quiet still brief);
+  }
+
+-- no run failed that can't
+pub none_left : {R : Type 0} (runs : List R) → All (λ run. 0 < 0) runs → length runs ≡ 0
+none_left [] all = refl
+none_left (run ∷ runs) all =
+    absurd (let some = All-head (λ r. 0 < 0) run runs all in omega (arith, some))
+
+-- the fallen runs are counted by the tree
+pub settles_runs : {L P : Type 0} (service : Service) (broke : Type 0) (faults faults' : ℕ)
     (e : Eyes L P) (listen : List Listen) (c : Conclusion) (before now : ℕ)
     (old new : NetState L P) →
-    Ran service broke e listen c before now old new → Ran service ⊥ e listen c before now old new
-ran_unbroken service broke none e listen c before now old new r = record {
-  headline = added_for service (grounds (IsDownBy c old new) broke) (grounds (IsDownBy c old new) ⊥)
-      (λ d. d) none e.state e.faults new old.closed new.closed r.headline;
-  shut_last = r.shut_last;
-  given = r.given;
-  live = r.live;
-  quiet = r.quiet;
-  bound = r.bound;
-  settled = r.settled;
-  net = r.net;
-  unstopped = r.unstopped;
-  complete = λ never. r.complete none;
+    RanOver service broke faults faults' e listen c before now old new →
+    SettlesRuns faults faults' old.closed new.closed
+settles_runs service broke faults faults' e listen c before now old new r = record {
+  entries = r.ran.fell.entries;
+  whole = r.ran.fell.whole;
+  counted = subst (λ n. added faults n ≤ faults') r.ran.fell.count r.counted;
 }
 
-all_tell : (links spills : Bool) → IsTrue links → IsTrue spills →
-    IsTrue (links && (spills && spills))
-all_tell true true link spill = refl
-all_tell true false link spill = spill
-all_tell false spills link spill = link
+all_tell : (links spills app : Bool) → IsTrue links → IsTrue spills → IsTrue app →
+    IsTrue (links && (spills && app))
+all_tell true true true link spill told = refl
+all_tell true true false link spill told = told
+all_tell true false app link spill told = spill
+all_tell false spills app link spill told = link
 
 -- what is asked for was read
-pub read_complete : {L P : Type 0} (links spills : Bool) (asked read : Reading) → asked ≡ read →
-    (e : Eyes L P) (listen : List Listen) (c : Conclusion) (before now : ℕ)
-    (old new : NetState L P) →
-    Ran (service_for (telling links spills spills) read) ⊥ e listen c before now old new →
-    IsTrue links → IsTrue spills → IsTrue old.quiet → IsStill before now →
-    IsBrief (timeout_by asked) new → DoneAdds (IsAnswered e.state e.faults (owed_by asked)) c
+pub read_complete : {L P : Type 0} (links spills files : Bool) (named : Files)
+    (asked read : Reading) → asked ≡ read → (broke : Type 0) (faults faults' : ℕ) (e : Eyes L P)
+    (listen : List Listen) (c : Conclusion) (before now : ℕ) (old new : NetState L P) →
+    RanOver (service_for (telling links spills (told_by read spills files)) named read) broke faults
+    faults' e listen c before now old new → IsTrue links → IsTrue spills →
+    IsTrue (told_by asked spills files) →
+    IsTrue old.quiet → IsStill before now → IsStill faults faults' →
+    IsBrief (timeout_by asked) new → DoneAdds (IsAnswered e.state e.faults (owed_by named asked)) c
     old.closed new.closed
-read_complete links spills asked read is e listen c before now old new r link spill quiet still =
-    subst (λ a. IsBrief (timeout_by a) new → DoneAdds (IsAnswered e.state e.faults (owed_by a)) c
-    old.closed new.closed) (sym is)
-    (r.complete (λ never. never) link (all_tell links spills link spill) quiet still)
+read_complete links spills files named asked read is broke faults faults' e listen c before now old
+    new r link spill app quiet still unbroken =
+    subst (λ a. IsBrief (timeout_by a) new → DoneAdds (IsAnswered e.state e.faults
+    (owed_by named a)) c old.closed new.closed) (sym is)
+    (r.ran.complete (none_counted faults faults' r.fallen unbroken r.counted) link
+    (all_tell links spills (told_by read spills files) link spill
+    (subst (λ a. IsTrue (told_by a spills files)) is app)) quiet still)
+
+pub read_headline : {L P : Type 0} (links spills files : Bool) (named : Files)
+    (asked read : Reading) → asked ≡ read → (faults faults' : ℕ) (e : Eyes L P)
+    (listen : List Listen) (c : Conclusion) (before now : ℕ) (old new : NetState L P) →
+    RanOver (service_for (telling links spills (told_by read spills files)) named read)
+    (IsTrue (reads_files read)) faults faults' e listen c before now old new →
+    Added (EntryHolds (service_for (telling links spills (told_by asked spills files)) named asked)
+    (grounds (IsDownBy c old new) (IsTrue (reads_files asked))) e.state e.faults new) old.closed
+    new.closed
+read_headline links spills files named asked read is faults faults' e listen c before now old new r
+    =
+    subst (λ a. Added (EntryHolds (service_for (telling links spills (told_by a spills files))
+    named a) (grounds (IsDownBy c old new) (IsTrue (reads_files a))) e.state e.faults new)
+    old.closed new.closed) (sym is) r.ran.headline
 
 -- why the whole server went down, where a report says so
 pub report_down : {L P : Type 0} (status result : ℕ) (old new : NetState L P) (before now : ℕ) →

@@ -7,6 +7,8 @@ use Rattle.std.proofs.Common.{
   inl,
   inr,
   ℕ,
+  zero,
+  suc,
   Bool,
   true,
   false,
@@ -22,6 +24,7 @@ use Rattle.std.proofs.Common.{
 }
 use Rattle.std.specs.Prelude.{Option, Some, None, IfSome, filter, ◌≢◌}
 use Rattle.channel.specs.Views.{Owed}
+use Rattle.outside.specs.Causes.{added, raised}
 use Rattle.outside.specs.Link.{LinkState}
 use Rattle.outside.specs.Net.{NetState, last_moment}
 use Rattle.outside.specs.declared.retired.Retired.{Retired}
@@ -34,11 +37,13 @@ use Rattle.poll_loop.specs.Entries.{
   Grounds,
   IsTimely,
   Service,
+  app_faults,
+  is_app_fault,
   is_spill_fault,
   spill_faults,
 }
 use Rattle.poll_loop.specs.Lists.{EachIs}
-use Rattle.waitress_serve.specs.Completeness.{IsBrief}
+use Rattle.waitress_serve.specs.Completeness.{IsBrief, IsStill}
 
 -- ---- lists of which each item is so
 
@@ -114,25 +119,24 @@ module _ {L P : Type 0} (service : Service) (broke : Type 0) (net : NetState L P
       let within : last_moment net.last ≤ f + timeout = brief in
       omega (arith, same, since, late, until, within)
 
-  -- so each is answered, where no run breaks and no spill failed
-  pub answered_end : (broke → ⊥) → IsTrue service.tells.link → IsTrue service.tells.all →
+  -- so each is answered, where no run broke and no spill failed
+  pub answered_end : IsTrue service.tells.link → IsTrue service.tells.all →
       IsBrief service.timeout net →
       (link : LinkState) (count : ℕ) (owed : Owed) (end : End) →
       (IsTrue service.tells.link → IsTimely net link) →
-      EndHolds service (going_on broke) net link count owed end → is_spill_fault end ≡ false →
-      count ≡ 0 →
+      EndHolds service (going_on broke) net link count owed end →
+      (is_spill_fault end ≡ false) × (is_app_fault end ≡ false) → count ≡ 0 →
       (end ≡ over.NoMemory) ⊎ ((end ≡ over.Done) × (link.sent ≡ owed.output))
-  answered_end none told all brief link count owed over.Done timely is unspilled faultless =
+  answered_end told all brief link count owed over.Done timely is unspilled faultless =
       inr (refl, (is all).whole)
-  answered_end none told all brief link count owed over.LinkFault timely is unspilled faultless =
+  answered_end told all brief link count owed over.LinkFault timely is unspilled faultless =
       absurd (omega (arith, is, faultless))
-  answered_end none told all brief link count owed over.SpillFault timely is unspilled faultless =
-      cc
-  answered_end none told all brief link count owed over.AppFault timely is unspilled faultless =
-      absurd (none is)
-  answered_end none told all brief link count owed over.NoMemory timely is unspilled faultless =
-      inl refl
-  answered_end none told all brief link count owed (over.TimedOut touched now) timely is unspilled
+  answered_end told all brief link count owed over.SpillFault timely is unspilled faultless =
+      let unspilt = unspilled.0 in cc
+  answered_end told all brief link count owed over.AppFault timely is unspilled faultless =
+      let unbroken = unspilled.1 in cc
+  answered_end told all brief link count owed over.NoMemory timely is unspilled faultless = inl refl
+  answered_end told all brief link count owed (over.TimedOut touched now) timely is unspilled
       faultless =
       let was = (timely told).touched in
       let same = is.0.touched_is told in
@@ -140,7 +144,7 @@ module _ {L P : Type 0} (service : Service) (broke : Type 0) (net : NetState L P
       let late = is.0.late in
       absurd (too_brief touched service.timeout now net.first was.first was.began
       (omega (arith, since, same)) (omega (arith, late)) is.1 brief)
-  answered_end none told all brief link count owed over.ShutDown timely is unspilled faultless =
+  answered_end told all brief link count owed over.ShutDown timely is unspilled faultless =
       absurd is
 
 -- a count of those that pass is 0 only where none passes
@@ -149,11 +153,25 @@ none_first : {X : Type 0} (b : Bool) (x : X) (rest : List X) → length (cond b 
 none_first true x rest none = absurd (omega (arith, none))
 none_first false x rest none = (refl, none)
 
--- no entry ended by a fault of a spill
-pub none_spilled : {L : Type 0} (entries : List (Retired L)) → spill_faults entries ≡ 0 →
-    EachIs (λ e. is_spill_fault e.end ≡ false) entries
-none_spilled [] none = tt
-none_spilled (entry ∷ entries) none =
-    let split = none_first (is_spill_fault entry.end) entry
-    (filter (λ e. is_spill_fault e.end) entries) none in
-    (split.0, none_spilled entries split.1)
+-- none passes
+none_passes : {L : Type 0} (p : Retired L → Bool) (entries : List (Retired L)) →
+    length (filter p entries) ≡ 0 → EachIs (λ e. p e ≡ false) entries
+none_passes p [] none = tt
+none_passes p (entry ∷ entries) none =
+    let split = none_first (p entry) entry (filter p entries) none in
+    (split.0, none_passes p entries split.1)
+
+-- no entry ended by a fault of a spill or of the application
+pub none_failed : {L : Type 0} (entries : List (Retired L)) → spill_faults entries ≡ 0 →
+    app_faults entries ≡ 0 →
+    EachIs (λ e. (is_spill_fault e.end ≡ false) × (is_app_fault e.end ≡ false)) entries
+none_failed entries unspilled unbroken =
+    each_both _ _ _ (λ e spilt broke. (spilt, broke)) entries
+    (none_passes (λ e. is_spill_fault e.end) entries unspilled)
+    (none_passes (λ e. is_app_fault e.end) entries unbroken)
+
+-- where a count didn't rise, nothing was added to it
+pub none_counted : (before now n : ℕ) → IsStill before now → added before n ≤ now → n ≡ 0
+none_counted before now zero still counted = refl
+none_counted before now (suc n) still counted = let rose : raised before ≤ now =
+    omega (arith, counted) in absurd (still rose)

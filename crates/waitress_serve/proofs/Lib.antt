@@ -1,4 +1,7 @@
+mod Applications
 mod Completing
 mod Concluded
 mod Ends
+mod FailedRuns
+mod TableFiles
 mod TextLemmas

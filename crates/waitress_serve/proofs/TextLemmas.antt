@@ -1,14 +1,15 @@
 -- What a write leaves.
 use Rattle.std.proofs.Common.{
   ◌≡◌,
+  ◌⊎◌,
   inl,
   inr,
   ◌+◌,
   ◌<◌,
   ◌≤◌,
   ℕ,
-  IsTrue,
   List,
+  [],
   ◌∷◌,
   ◌++◌,
   length,
@@ -18,36 +19,22 @@ use Rattle.std.proofs.Common.{
   refl,
   ap,
   sym,
+  subst,
   ◌∙◌,
   append-nil,
   append_assoc,
 }
 use Rattle.std.proofs.Math.Seq.{take-length}
-use Rattle.std.specs.Prelude.{Result, Ok, Err, OnOk, OnErr}
+use Rattle.std.specs.Prelude.{◌≢◌, Bool, Result, Ok, Err, OnOk, OnErr}
 use Rattle.std.proofs.lemmas.List.{at_drop_more, drop_all}
-use Rattle.adjust.specs.Command.{command}
-use Rattle.adjust.specs.Texts.{fault_text_of}
-use Rattle.adjust.specs.declared.types.UsageFault.{UsageFault}
 use Rattle.outside.specs.declared.types.Listen.{Listen}
 use Rattle.waitress_serve.specs.Conclusions.{OutLeaves}
-use Rattle.waitress_serve.specs.Reports.{Writes}
-use Rattle.waitress_serve.specs.Status.{
-  Reading,
-  line_of,
-  WritesPart,
-  WritesSome,
-  may_report,
-  report_text,
-  serving_line,
-  serving_lines,
-}
+use Rattle.waitress_serve.specs.Made.{Files}
+use Rattle.waitress_serve.specs.Reading.{Reading}
+use Rattle.waitress_serve.specs.Reports.{Leaves, Reports, Writes, WritesSome}
+use Rattle.waitress_serve.specs.Status.{WritesPart, serving_line, serving_lines}
 use Rattle.waitress_serve.specs.declared.conclusion.Conclusion.{Conclusion}
 use Rattle.waitress_serve.specs.declared.conclusion.Conclusion.TheVariants as conclusion
-
--- success prints nothing
-pub no_text : (asked : Reading) (xs : List ℕ) → xs ≡ xs ++ report_text asked 0
-unfolding report_text
-no_text asked xs = sym (append-nil xs)
 
 -- what a write leaves is a part of the text
 pub part_written : {T E : Type 0} (text old new : List ℕ) (result : Result T E) →
@@ -80,18 +67,12 @@ lines_over text whole xs i over before =
     sym (append-nil text) ∙ (ap (λ ys. text ++ serving_lines ys) (sym (drop_all i xs over)) ∙
     before)
 
-pub usage_text_is : (fault : UsageFault) → line_of (fault_text_of fault) ≡ report_text (Err fault) 1
-unfolding report_text
-usage_text_is fault = refl
-
 -- a whole text was written, and its status is answered
-pub writes_whole : (asked : Reading) (status result : ℕ) (text old new : List ℕ) →
-    IsTrue (may_report asked status) → result ≡ status → text ≡ report_text asked status →
-    new ≡ old ++ text → Writes asked result old new
-writes_whole asked status result text old new may same is whole = record {
-  text = λ _. whole ∙ ap (λ xs. old ++ xs) (is ∙ ap (λ n. report_text asked n) (sym same));
-  status = status;
-  may = may;
+pub leaves_whole : (wanted text : List ℕ) (status result : ℕ) (old new : List ℕ) → result ≡ status →
+    text ≡ wanted → new ≡ old ++ text → Leaves wanted status result old new
+leaves_whole wanted text status result old new same is whole = record {
+  status_is = λ _. same;
+  whole = λ _. whole ∙ ap (λ xs. old ++ xs) is;
   part = record {
     count = length text;
     written = whole ∙
@@ -100,29 +81,57 @@ writes_whole asked status result text old new may same is whole = record {
 }
 
 -- a part of a text was written, and the sink failed
-pub writes_part : (asked : Reading) (status : ℕ) (text old new : List ℕ) →
-    IsTrue (may_report asked status) → text ≡ report_text asked status →
-    (n : ℕ) × (new ≡ old ++ take n text) → Writes asked 6 old new
-writes_part asked status text old new may is part = record {
-  text = λ other. absurd (other refl);
-  status = status;
-  may = may;
+pub leaves_part : (wanted text : List ℕ) (status : ℕ) (old new : List ℕ) → text ≡ wanted →
+    (n : ℕ) × (new ≡ old ++ take n text) → Leaves wanted status 6 old new
+leaves_part wanted text status old new is part = record {
+  status_is = λ other. absurd (other refl);
+  whole = λ other. absurd (other refl);
   part = record { count = part.0; written = part.1 ∙ ap (λ xs. old ++ take part.0 xs) is };
 }
 
--- in the words of the top call
-pub writes_some : (words : List (List ℕ)) (result : ℕ) (old new : List ℕ) →
-    Writes (command words) result old new → WritesSome words old new
-writes_some words result old new h = record { status = h.status; may = h.may; part = h.part }
+module _ (told : Bool) (before now : ℕ) (files : Files) (asked : Reading) (result : ℕ)
+    (old new : List ℕ) where
+  abbrev Is : ℕ → List ℕ → Type 0
+  Is = Reports told before now files asked
 
--- nothing was written
-pub writes_none : (words : List (List ℕ)) (old new : List ℕ) → new ≡ old → WritesSome words old new
-writes_none words old new same = record {
-  status = 5;
-  may = refl;
-  part =
-      record { count = 0; written = same ∙ sym (append-nil old) };
-}
+  -- in the words of the top call
+  pub writes_text : (text : List ℕ) (status : ℕ) → Is status text →
+      Leaves text status result old new → result ≢ 6 → Writes (Is result) old new
+  writes_text text status is h other = record {
+    text = text;
+    is =
+        subst (λ n. Is n text) (sym (h.status_is other)) is;
+    whole = h.whole other;
+  }
+
+  pub writes_some : (text : List ℕ) (status : ℕ) → Is status text →
+      Leaves text status result old new → WritesSome Is old new
+  writes_some text status is h = record { status = status; text = text; is = is; part = h.part }
+
+  -- one of two texts
+  pub writes_either : (one other : List ℕ) (status status' : ℕ) → Is status one → Is status' other →
+      Leaves one status result old new ⊎ Leaves other status' result old new → result ≢ 6 →
+      Writes (Is result) old new
+  writes_either one other status status' is is' h six = elim h
+      [ inl w ↦ writes_text one status is w six | inr w ↦ writes_text other status' is' w six ]
+
+  pub cuts_either : (one other : List ℕ) (status status' : ℕ) → Is status one → Is status' other →
+      Leaves one status result old new ⊎ Leaves other status' result old new → WritesSome Is old new
+  cuts_either one other status status' is is' h = elim h
+      [ inl w ↦ writes_some one status is w | inr w ↦ writes_some other status' is' w ]
+
+  -- nothing was written
+  pub writes_none : Is 0 [] → new ≡ old → Writes (Is 0) old new
+  writes_none is same = record { text = []; is = is; whole = same ∙ sym (append-nil old) }
+
+  pub cuts_none : Is 0 [] → new ≡ old → WritesSome Is old new
+  cuts_none is same = record {
+    status = 0;
+    text = [];
+    is = is;
+    part =
+        record { count = 0; written = same ∙ sym (append-nil old) };
+  }
 
 whole_part : (text old new : List ℕ) → new ≡ old ++ text → WritesPart text old new
 whole_part text old new whole = record {
@@ -139,6 +148,7 @@ pub out_part : (text : List ℕ) (c : Conclusion) (old new : List ℕ) → OutLe
 out_part text conclusion.Done old new h = whole_part text old new h
 out_part text (conclusion.Usage fault) old new h = no_part text old new h
 out_part text conclusion.NotBuilt old new h = no_part text old new h
+out_part text (conclusion.Unmade why) old new h = no_part text old new h
 out_part text conclusion.BindFailed old new h = no_part text old new h
 out_part text conclusion.Unprinted old new h = h
 out_part text conclusion.PollFailed old new h = whole_part text old new h

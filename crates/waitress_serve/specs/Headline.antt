@@ -21,7 +21,7 @@ use Rattle.outside.specs.declared.retired.Retired.{Retired}
 use Rattle.outside.specs.declared.types.End.TheVariants as over
 use Rattle.outside.specs.declared.types.Peer.{Peer}
 use Rattle.poll_loop.specs.Accounts.{IsShutDown, retired_of}
-use Rattle.poll_loop.specs.Entries.{Grounds, spill_faults}
+use Rattle.poll_loop.specs.Entries.{Grounds, app_faults, spill_faults}
 use Rattle.poll_loop.specs.Lists.{EachIs}
 use Rattle.waitress_serve.specs.Status.{ToldStop}
 
@@ -46,6 +46,13 @@ pub record SettlesSpills {L : Type 0} (before now : ℕ) (old new : List (Retire
   pub entries : List (Retired L)
   pub whole : new ≡ old ++ entries
   pub counted : added before (spill_faults entries) ≤ now
+
+-- For each that was retired for a fault of the application, the entry of its run was settled, and
+-- is counted.
+pub record SettlesRuns {L : Type 0} (before now : ℕ) (old new : List (Retired L)) : Type 0 where
+  pub entries : List (Retired L)
+  pub whole : new ≡ old ++ entries
+  pub counted : added before (app_faults entries) ≤ now
 
 -- The links that came are those that were retired, each with its own peer and plan.
 pub record RetiresGiven {L P : Type 0} (plan : L → P) (old new : NetState L P) : Type 0 where

@@ -1,7 +1,10 @@
 pub mod Completeness
 pub mod Conclusions
 pub mod Headline
+pub mod Made
 pub mod Owed
+pub mod Reading
 pub mod Reports
 pub mod Settings
 pub mod Status
+pub mod TableFile

@@ -1,4 +1,5 @@
 //! How a command ended.
+use crate::made::Unmade;
 use adjust::UsageFault;
 
 /// How a command ended, which the status of the program tells.
@@ -9,6 +10,8 @@ pub(crate) enum Conclusion {
     Usage(UsageFault),
     /// What the words ask for isn't built.
     NotBuilt,
+    /// The application that the words name could not be made.
+    Unmade(Unmade),
     BindFailed,
     /// What is to be printed could not be written to `out`.
     Unprinted,

@@ -1,13 +1,8 @@
 //! What is printed to `out`.
 ghost use Rattle.std.specs.Prelude.{◌≡◌, ◌++◌, ◌⊎◌, IfOk, IsTrue, OnOk, Ok as ok};
 ghost use Rattle.outside.specs.Causes.{Rose};
-ghost use Rattle.waitress_serve.specs.Status.{
-  WritesPart,
-  printed,
-  prints,
-  serving_line,
-  serving_lines,
-};
+ghost use Rattle.waitress_serve.specs.Reading.{prints};
+ghost use Rattle.waitress_serve.specs.Status.{WritesPart, printed, serving_line, serving_lines};
 
 use adjust::{Command, check_text, help_text, push_listen};
 use outside::{Bytes, Listen, Sink};

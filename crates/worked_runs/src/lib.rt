@@ -15,6 +15,8 @@ mod crowd;
 #[cfg(test)]
 mod echoes;
 #[cfg(test)]
+mod files;
+#[cfg(test)]
 mod kinds;
 #[cfg(test)]
 mod many;

@@ -79,7 +79,7 @@ fn a_run_ends_with_its_status(rt: HostRuntime) -> Result<(), Fail> {
 }
 
 // Neither served nor printed: the words, the status and what is reported.
-const REFUSED: [(&str, u8, &[u8]); 11] = [
+const REFUSED: [(&str, u8, &[u8]); 10] = [
     ("ecco", 1, b"waitress-serve: unknown application\n"),
     ("", 1, b"waitress-serve: unknown application\n"),
     ("echo|x", 1, b"waitress-serve: wrong number of operands\n"),
@@ -112,12 +112,7 @@ const REFUSED: [(&str, u8, &[u8]); 11] = [
     (
         "table|t.toml",
         2,
-        b"waitress-serve: the application could not be made: not built\n",
-    ),
-    (
-        "dir|site",
-        2,
-        b"waitress-serve: the application could not be made: not built\n",
+        b"waitress-serve: the application could not be made: no such file\n",
     ),
     (
         "--rehearse=1",

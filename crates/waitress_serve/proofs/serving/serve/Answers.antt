@@ -1,4 +1,5 @@
-use Rattle.std.proofs.Common.{◌≡◌, ℕ, inl, [], None, length, refl, sym, subst, arith, append-nil}
+use Rattle.std.proofs.Common.{◌≡◌, ℕ, List, inl, [], None, length, refl, sym, subst, ap, arith}
+use Rattle.std.proofs.Common.{append-nil, rules}
 use Rattle.std.specs.Prelude.{Result, Err}
 use Rattle.std.proofs.lemmas.List.Sorted.{IsPermutation-refl}
 use Rattle.channel.specs.Output.{Script}
@@ -18,10 +19,10 @@ use Rattle.waitress_serve.specs.Conclusions.{ServedAll}
 use Rattle.waitress_serve.proofs.serving.serve.Goals as goal
 
 -- no server could be made
-unserved : {L P : Type 0} (service : Service) (broken : Type 0) (e : Eyes L P) (count : ℕ)
-    (net : NetState L P) → ServedAll (Err fault.NoMemory) service broken e count count net net
-unserved {L} service broken e count net = record {
-  fallen = 0;
+unserved : {L P R : Type 0} (service : Service) (broken : Type 0) (e : Eyes L P) (count : ℕ)
+    (net : NetState L P) (runs : List R) → runs ≡ [] →
+    ServedAll (Err fault.NoMemory) service broken (length runs) e count count net net
+unserved {L} service broken e count net runs none_fell = record {
   who = [];
   served = record {
     before = [];
@@ -36,7 +37,7 @@ unserved {L} service broken e count net = record {
     same = IsPermutation-refl _;
     live = omega arith;
     spilled = let none : spill_faults {L = L} [] ≡ 0 = refl in omega (arith, none);
-    fell = refl;
+    fell = ap length none_fell;
     bound = refl;
     quiet = refl;
     polls = omega arith;
@@ -48,7 +49,8 @@ unserved {L} service broken e count net = record {
 -- a server without connections served
 served_all : {L P A R : Type 0} (result : Result Going ServeFault) (tells : Telling)
     (script : A → Script) (broken : Type 0) (e : Eyes L P) (before now : ℕ) (old new : NetState L P)
-    (fresh ended : Serving L A R) (app : A) (settings : Settings) →
+    (fresh ended : Serving L A R) (app : A) (settings : Settings) (runs : List R) →
+    runs ≡ ended.fallen →
     fresh ≡ record {
       app = app;
       settings = settings;
@@ -62,16 +64,17 @@ served_all : {L P A R : Type 0} (result : Result Going ServeFault) (tells : Tell
     e.state e.faults)
     (EntryHolds (service_by tells script fresh.settings fresh.app) (shutting_down broken) e.state
     e.faults) e.plan (booked e old before fresh) (booked e new now ended) →
-    ServedAll result (service_by tells script settings app) broken e before now old new
-served_all result tells script broken e before now old new fresh ended app settings begins s =
-    record {
-      fallen = length ended.fallen;
+    ServedAll result (service_by tells script settings app) broken (length runs) e before now old
+    new
+served_all result tells script broken e before now old new fresh ended app settings runs are begins
+    s = subst (λ rs. ServedAll result (service_by tells script settings app) broken (length rs) e
+    before now old new) (sym are) (record {
       who = who e ended;
       served = subst (λ f. Served result (EntryHolds (service_by tells script f.settings f.app)
           (going_on broken) e.state e.faults)
           (EntryHolds (service_by tells script f.settings f.app) (shutting_down broken) e.state
           e.faults) e.plan (booked e old before f) (booked e new now ended)) begins s;
-    }
+    })
 
 pub returns-clause-served : goal.returns-clause-served
 returns-clause-served g c = λ told.
@@ -79,7 +82,9 @@ returns-clause-served g c = λ told.
     g.A.App.tells) g.A.App.script (HasBroken g.A.Run.AppRun.faults)
     (eyes_of g.N.Link.Link) _ _ (g.N.Net.state c.args.net.now) (g.N.Net.state c.serve-ended.new.net)
     (serving c.in-Ok.server) (serving c.serve-ended.new.self) c.args.app.now c.args.settings.now
+    c.failed.result.items c.failed.ensures.runs
     c.in-Ok.ensures.begins (c.serve-ended.ensures.served told)
 
 pub returns-in_default-clause-served : goal.returns-in_default-clause-served
-returns-in_default-clause-served g c = λ told. unserved _ _ _ _ _
+returns-in_default-clause-served g c = λ told. unserved _ _ _ _ _ c.new-in_default.result.items
+    (search rules)

@@ -1,15 +1,19 @@
-use Rattle.std.proofs.Common.{◌≡◌, Err, Ok, arith, inl, inr, refl, sym}
+use Rattle.std.proofs.Common.{◌≡◌, ◌∙◌, Err, Ok, Some, ap, arith, inl, inr, refl, sym}
 use Rattle.adjust.specs.Command.{IsOrLacksMemory}
 use Rattle.adjust.specs.declared.types.Command.{Command}
 use Rattle.adjust.specs.declared.types.UsageFault.{UsageFault}
 use Rattle.adjust.specs.declared.types.UsageFault.TheVariants.{NoMemory}
-use Rattle.waitress_serve.specs.Status.{Reading}
+use Rattle.waitress_serve.specs.Reading.{Reading}
+use Rattle.waitress_serve.specs.Status.{listen_by}
 use Rattle.waitress_serve.proofs.Concluded.{
   keeps_same,
   nobody_given,
+  no_run_settled,
   nothing_added,
   nothing_settled,
   read_complete,
+  read_headline,
+  settles_runs,
 }
 use Rattle.waitress_serve.proofs.starting.run_words.Goals as goal
 
@@ -25,12 +29,76 @@ is_command asked command h =
     elim h [ inl same ↦ sym same | inr lacks ↦ cc ]
 
 pub returns-in-Ok-clause-complete : goal.returns-in-Ok-clause-complete
-returns-in-Ok-clause-complete g c = λ told links spills quiet.
-    read_complete _ _ _ _ (is_command _ c.in-Ok.command c.in-Ok.ensures.command) _ _ _ _ _
-    (g.N.Net.state c.args.net.now) _ (c.carry_out.ensures.ran told) links spills quiet
+returns-in-Ok-clause-complete g c = λ told links spills app quiet.
+    read_complete _ _ _ _ _ _ (is_command _ c.in-Ok.command c.in-Ok.ensures.command) _ _ _ _ _ _ _ _
+    (g.N.Net.state c.args.net.now) _ (c.carry_out.ensures.ran told) links spills app quiet
 
-pub returns-in-NoMemory-clause-given : goal.returns-in-NoMemory-clause-given
-returns-in-NoMemory-clause-given g c = λ told. nobody_given _ _ _ refl refl
+pub returns-in-Ok-clause-headline : goal.returns-in-Ok-clause-headline
+returns-in-Ok-clause-headline g c = λ told.
+    read_headline _ _ _ _ _ _ (is_command _ c.in-Ok.command c.in-Ok.ensures.command) _ _ _ _ _ _ _
+    (g.N.Net.state c.args.net.now) _ (c.carry_out.ensures.ran told)
+
+pub returns-in-Ok-clause-bound : goal.returns-in-Ok-clause-bound
+returns-in-Ok-clause-bound g c = λ told more. (c.carry_out.ensures.ran told).ran.bound more ∙
+    ap (λ a. Some (listen_by a)) (sym (is_command _ c.in-Ok.command c.in-Ok.ensures.command))
+
+pub returns-in-Ok-clause-net : goal.returns-in-Ok-clause-net
+returns-in-Ok-clause-net g c = λ told. (c.carry_out.ensures.ran told).ran.net
+
+pub returns-in-Ok-clause-shut_last : goal.returns-in-Ok-clause-shut_last
+returns-in-Ok-clause-shut_last g c = λ told. (c.carry_out.ensures.ran told).ran.shut_last
+
+pub returns-in-Ok-clause-given : goal.returns-in-Ok-clause-given
+returns-in-Ok-clause-given g c = λ told. (c.carry_out.ensures.ran told).ran.given
+
+pub returns-in-Ok-clause-live : goal.returns-in-Ok-clause-live
+returns-in-Ok-clause-live g c = λ told. (c.carry_out.ensures.ran told).ran.live
+
+pub returns-in-Ok-clause-quiet : goal.returns-in-Ok-clause-quiet
+returns-in-Ok-clause-quiet g c = λ told. (c.carry_out.ensures.ran told).ran.quiet
+
+pub returns-in-Ok-clause-unstopped : goal.returns-in-Ok-clause-unstopped
+returns-in-Ok-clause-unstopped g c = λ told. (c.carry_out.ensures.ran told).ran.unstopped
+
+pub returns-in-Ok-clause-settled : goal.returns-in-Ok-clause-settled
+returns-in-Ok-clause-settled g c = λ told. (c.carry_out.ensures.ran told).ran.settled
+
+pub returns-in-Ok-clause-fell : goal.returns-in-Ok-clause-fell
+returns-in-Ok-clause-fell g c = λ told.
+    settles_runs _ _ _ _ _ _ _ _ _ (g.N.Net.state c.args.net.now) _
+    (c.carry_out.ensures.ran told)
+
+pub returns-in-NoMemory : goal.returns-in-NoMemory
+returns-in-NoMemory g c = record {
+  why = tt;
+  binds = refl;
+  polls = refl;
+  net = λ told. tt;
+  stops = λ told some. tt;
+  limited = λ told. keeps_same _ _ _ refl;
+  idle = λ none. (refl, refl);
+  idle_net = λ told none. refl;
+  headline = λ told. nothing_added _ _ _ refl;
+  shut_last = λ told. inl refl;
+  given = λ told. nobody_given _ _ _ refl refl;
+  live = λ told. refl;
+  quiet = λ told. refl;
+  unstopped = λ told. tt;
+  plan = refl;
+  bound = λ told more. absurd (omega (arith, more));
+  spills = omega arith;
+  settled = λ told. nothing_settled _ _ _ _ refl refl;
+  fell = λ told. no_run_settled _ _ _ _ refl refl;
+  complete = λ told links spills app quiet still unbroken brief. tt;
+  tree = omega arith;
+  files = λ told. refl;
+  tree_kept = λ none. refl;
+  tree_read = λ none. refl;
+  idle_out = λ some none. refl;
+  outs = refl;
+  text = λ told. inl refl;
+  printed = λ told net more. absurd (omega (arith, more));
+}
 
 pub returns-in_default : goal.returns-in_default
 returns-in_default g c = record {
@@ -52,7 +120,13 @@ returns-in_default g c = record {
   bound = λ told more. absurd (omega (arith, more));
   spills = omega arith;
   settled = λ told. nothing_settled _ _ _ _ refl refl;
-  complete = λ told links spills quiet still brief. tt;
+  fell = λ told. no_run_settled _ _ _ _ refl refl;
+  complete = λ told links spills app quiet still unbroken brief. tt;
+  tree = omega arith;
+  files = λ told. refl;
+  tree_kept = λ none. refl;
+  tree_read = λ none. refl;
+  idle_out = λ some none. refl;
   outs = refl;
   text = λ told. refl;
   printed = λ told net more. absurd (omega (arith, more));
