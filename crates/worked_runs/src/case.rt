@@ -2,6 +2,7 @@
 ghost use Rattle.std.specs.Prelude.{◌<◌, IfOk, length};
 ghost use Rattle.outside.specs.Moments.{NeverFalls};
 
+use crate::disk::{File, tree_of};
 use crate::texts::{ANSWER, REQUEST, SERVING};
 use outside::{
     Bytes, Comer, End, Items, LinkPlan, MemNet, MemSink, MemSpills, MemTree, MemTrigger, NetPlan,
@@ -40,10 +41,10 @@ pub(crate) struct Case<'a> {
     pub(crate) cut: u32,
     pub(crate) takes: u32,
     pub(crate) second_send_fails: bool,
-    // the one file, if it has a name
-    pub(crate) file: &'a [u8],
-    pub(crate) content: &'a [u8],
+    pub(crate) files: &'a [File<'a>],
     pub(crate) status: u8,
+    // how often the entries of files failed that were settled
+    pub(crate) tree_faults: u64,
     // how many connections were retired
     pub(crate) retired: u8,
     pub(crate) end: End,
@@ -70,9 +71,9 @@ pub(crate) const SERVED: Case<'static> = Case {
     cut: 8192,
     takes: 8192,
     second_send_fails: false,
-    file: b"",
-    content: b"",
+    files: &[],
     status: 0,
+    tree_faults: 0,
     retired: 1,
     end: End::Done,
     sent: ANSWER,
@@ -158,19 +159,6 @@ pub(crate) fn status_of<R: Threads + Wait + AllocGlobal + Sync>(
     rt: &R,
     words: &[String],
     net: &mut MemNet,
-    out: &mut MemSink,
-    err: &mut MemSink,
-) -> u8 {
-    let alloc = rt.alloc();
-    let mut tree = MemTree::new(alloc, Vec::new(alloc), Vec::new(alloc));
-    status_over(rt, words, net, &mut tree, out, err)
-}
-
-// The same over some files.
-fn status_over<R: Threads + Wait + AllocGlobal + Sync>(
-    rt: &R,
-    words: &[String],
-    net: &mut MemNet,
     tree: &mut MemTree,
     out: &mut MemSink,
     err: &mut MemSink,
@@ -188,15 +176,6 @@ fn status_over<R: Threads + Wait + AllocGlobal + Sync>(
         err,
         &MemTrigger::new(),
     )
-}
-
-fn tree(alloc: Global, case: &Case<'_>) -> Result<MemTree, AllocError> {
-    let mut files = Vec::new(alloc);
-    if !case.file.is_empty() {
-        let content = Bytes::from_slice(alloc, case.content)?;
-        files.push((Bytes::from_slice(alloc, case.file)?, content))?;
-    }
-    Ok(MemTree::new(alloc, files, Vec::new(alloc)))
 }
 
 // The words that stand between the |.
@@ -218,9 +197,10 @@ pub(crate) fn check<R: Threads + Wait + Abort + AllocGlobal + Sync>(
     let mut net = net(alloc, case)?;
     let mut out = MemSink::new(alloc, failing(alloc, first(case.out_fails))?);
     let mut err = MemSink::new(alloc, failing(alloc, first(case.err_fails))?);
-    let mut tree = tree(alloc, case)?;
-    let status = status_over(rt, &words, &mut net, &mut tree, &mut out, &mut err);
+    let mut tree = tree_of(alloc, case.files)?;
+    let status = status_of(rt, &words, &mut net, &mut tree, &mut out, &mut err);
     assert_eq!(rt; status, case.status);
+    assert_eq!(rt; tree.faults(), case.tree_faults);
     assert_eq!(rt; out.written(), case.out);
     assert_eq!(rt; err.written(), case.err);
     match net.closed() {

@@ -3,6 +3,7 @@ ghost use Rattle.std.specs.Prelude.{◌<◌, IfOk, length};
 ghost use Rattle.outside.specs.Moments.{NeverFalls};
 
 use crate::case::{SUNDAY, failing, split, status_of};
+use crate::disk::{File, tree_of};
 use crate::texts::{ANSWER, REQUEST, SERVING};
 use outside::{
     Bytes, Comer, End, Items, LinkPlan, MemLink, MemNet, MemSink, NetPlan, Peer, Retired,
@@ -44,6 +45,9 @@ pub(crate) struct Crowd<'a> {
     // how much later each of the turns 1 to 7 is than the one before
     pub(crate) later: [u64; 7],
     pub(crate) stop_at: Option<u64>,
+    pub(crate) files: &'a [File<'a>],
+    // how often the entries of files failed that were settled
+    pub(crate) tree_faults: u64,
     pub(crate) guests: &'a [Guest<'a>],
     // so many at the end of the list are never accepted
     pub(crate) absent: usize,
@@ -73,6 +77,8 @@ pub(crate) const TWO: Crowd<'static> = Crowd {
     words: "--threads=0|echo",
     later: [0, 0, 0, 0, 0, 0, 0],
     stop_at: None,
+    files: &[],
+    tree_faults: 0,
     guests: &[ONE, ONE],
     absent: 0,
     asked: None,
@@ -222,8 +228,10 @@ pub(crate) fn check_crowd<R: Threads + Wait + Abort + AllocGlobal + Sync>(
     let mut net = net(alloc, crowd)?;
     let mut out = MemSink::new(alloc, Vec::new(alloc));
     let mut err = MemSink::new(alloc, Vec::new(alloc));
-    let status = status_of(rt, &words, &mut net, &mut out, &mut err);
+    let mut tree = tree_of(alloc, crowd.files)?;
+    let status = status_of(rt, &words, &mut net, &mut tree, &mut out, &mut err);
     assert_eq!(rt; status, 0);
+    assert_eq!(rt; tree.faults(), crowd.tree_faults);
     assert_eq!(rt; out.written(), SERVING);
     assert!(rt; err.written().is_empty());
     if let Some(asked) = crowd.asked {

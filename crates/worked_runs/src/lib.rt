@@ -13,13 +13,17 @@ mod connections;
 #[cfg(test)]
 mod crowd;
 #[cfg(test)]
+mod disk;
+#[cfg(test)]
 mod echoes;
 #[cfg(test)]
-mod files;
+mod folders;
 #[cfg(test)]
 mod kinds;
 #[cfg(test)]
 mod many;
+#[cfg(test)]
+mod tables;
 #[cfg(test)]
 mod texts;
 #[cfg(test)]
