@@ -1,5 +1,6 @@
 // What is given of files, and where that fails.
 use crate::asking::{asked, open, request, tree_of};
+use crate::shown::next;
 use std::alloc::{AllocError, Global};
 use std::test::Fail;
 use wsgi::{AppRun, Step};
@@ -48,7 +49,7 @@ fn sizes(alloc: Global, size: usize) -> Result<Vec<u8>, AllocError> {
     let mut got = Vec::from_slice(alloc, b"site/big=")?;
     let mut text = Vec::new(alloc);
     for _ in 0..6 {
-        if let Ok(Some(Step::Piece(piece))) = run.next(alloc) {
+        if let Ok(Some(Step::Piece(piece))) = next(alloc, &mut run) {
             got.extend_from_slice(piece.as_slice())?;
             text.extend_from_slice(format!(in alloc; "{} ", piece.len())?.as_bytes())?;
         }

@@ -37,6 +37,14 @@ fn add_step(alloc: Global, text: &mut Vec<u8>, step: &Step) -> Result<(), AllocE
     Ok(())
 }
 
+// What is said of a call isn't asked for here.
+pub(crate) fn next<E: TreeEntry + Drop>(
+    alloc: Global,
+    run: &mut DirRun<E, MemSpill>,
+) -> Result<Option<Step>, RunFault> {
+    run.next(alloc)
+}
+
 // Adds the next steps, of which there are at most five here, up to the end or a fault.
 pub(crate) fn add_steps<E: TreeEntry + Drop>(
     alloc: Global,
@@ -44,7 +52,7 @@ pub(crate) fn add_steps<E: TreeEntry + Drop>(
     run: &mut DirRun<E, MemSpill>,
 ) -> Result<(), AllocError> {
     for _ in 0..6 {
-        match run.next(alloc) {
+        match next(alloc, run) {
             Ok(Some(step)) => add_step(alloc, text, &step)?,
             Ok(None) => return Ok(()),
             Err(RunFault::Outside) => return text.extend_from_slice(b"|outside"),
