@@ -1,7 +1,23 @@
 //! With ample memory each call succeeds.
-use outside::{MemSpills, Spills};
-use spill_buffer::OverflowBuffer;
+use outside::{MemSpill, MemSpills, Spills};
+use spill_buffer::{BufferFault, OverflowBuffer};
+use std::alloc::Global;
 use std::test::Fail;
+
+// Appends, looks at the front and skips; answers the front, and how many bytes stand in memory.
+fn passed(
+    alloc: Global,
+    buffer: &mut OverflowBuffer<MemSpill>,
+    appended: &[u8],
+    skipped: u64,
+) -> Result<([u8; 3], u64), BufferFault> {
+    let mut into = [0; 3];
+    buffer.append(alloc, appended)?;
+    buffer.front(&mut into)?;
+    let whole = buffer.len();
+    buffer.skip(whole.min(skipped));
+    Ok((into, buffer.memory_len()))
+}
 
 #[test]
 fn bytes_come_out_in_order(rt: HostRuntime) -> Result<(), Fail> {
@@ -14,13 +30,11 @@ fn bytes_come_out_in_order(rt: HostRuntime) -> Result<(), Fail> {
         (b"!", b"orl", 5, 0),
     ];
     for (appended, front, skipped, left) in rows {
-        let mut into = [0; 3];
-        assert_eq!(rt; buffer.append(alloc, appended), Ok(()));
-        assert_eq!(rt; buffer.front(&mut into), Ok(3));
+        let Ok((into, memory)) = passed(alloc, &mut buffer, appended, skipped) else {
+            return Err(Fail::from("a fault"));
+        };
         assert_eq!(rt; into.as_slice(), front);
-        let whole = buffer.len();
-        buffer.skip(whole.min(skipped));
-        assert_eq!(rt; buffer.memory_len(), left);
+        assert_eq!(rt; memory, left);
     }
     assert!(rt; buffer.is_empty());
     spills.settle(buffer.into_spill());

@@ -1,7 +1,7 @@
 //! With ample memory the echo application answers all its steps.
-use apps::Echo;
+use apps::{Echo, EchoRun};
 use itoa::Buffer;
-use outside::{MemSpills, Spills};
+use outside::{MemSpill, MemSpills, Spills};
 use spill_buffer::OverflowBuffer;
 use std::alloc::{AllocError, Global};
 use std::test::Fail;
@@ -27,6 +27,15 @@ fn shown(alloc: Global, step: &Step) -> Result<Vec<u8>, AllocError> {
     Ok(text)
 }
 
+// How many steps were left, and the next one.
+fn next(alloc: Global, run: &mut EchoRun<MemSpill>) -> Result<(u64, Option<Step>), AllocError> {
+    let left = run.left();
+    match run.next(alloc) {
+        Ok(step) => Ok((left, step)),
+        Err(_) => Err(AllocError),
+    }
+}
+
 #[test]
 fn a_body_comes_back_in_pieces(rt: HostRuntime) -> Result<(), Fail> {
     let alloc = rt.alloc();
@@ -45,12 +54,13 @@ fn a_body_comes_back_in_pieces(rt: HostRuntime) -> Result<(), Fail> {
         (1, b"7232"),
     ];
     for (left, want) in rows {
-        assert_eq!(rt; run.left(), left);
-        let Ok(Some(step)) = run.next(alloc) else {
+        let (count, step) = next(alloc, &mut run)?;
+        assert_eq!(rt; count, left);
+        let Some(step) = step else {
             return Err(Fail::from("no step"));
         };
         assert_eq!(rt; shown(alloc, &step)?.as_slice(), want);
     }
-    assert!(rt; matches!(run.next(alloc), Ok(None)));
+    assert!(rt; matches!(next(alloc, &mut run)?, (0, None)));
     Ok(())
 }

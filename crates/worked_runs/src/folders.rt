@@ -63,15 +63,13 @@ const ROWS: [(&[u8], &[u8]); 9] = [
 #[test]
 fn requests_on_folders_are_answered(rt: HostRuntime) -> Result<(), Fail> {
     for (input, sent) in ROWS {
-        check(
-            &rt,
-            &Case {
-                files: &FILES,
-                input: Some(input),
-                sent,
-                ..FOLDER
-            },
-        )?;
+        let row = Case {
+            files: &FILES,
+            input: Some(input),
+            sent,
+            ..FOLDER
+        };
+        check(&rt, &row)?;
     }
     Ok(())
 }

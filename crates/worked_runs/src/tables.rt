@@ -4,7 +4,10 @@ use crate::disk::File;
 use crate::texts::{ABC, ABC_TWICE, BROKEN, FAILED, HELLO_HEAD, HELLO_TWICE, MISSING, SHORT};
 use outside::End;
 use std::alloc::{AllocError, Global};
+use std::process::Abort;
+use std::sync::Wait;
 use std::test::Fail;
+use std::thread::Threads;
 
 // The file of a table.
 const FILE: File<'static> = File {
@@ -24,14 +27,6 @@ const TABLE: Case<'static> = Case {
     words: "--threads=0|table|t.toml",
     input: Some(GET),
     ..SERVED
-};
-
-// The file is no table.
-const REFUSED: Case<'static> = Case {
-    words: "--threads=0|table|t.toml",
-    status: 2,
-    out: b"",
-    ..ALONE
 };
 
 // What stands in the file, what is asked, and what is answered.
@@ -81,149 +76,158 @@ const ROWS: [(&[u8], &[u8], &[u8]); 9] = [
     ),
 ];
 
+fn check_row<R: Threads + Wait + Abort + AllocGlobal + Sync>(
+    rt: &R,
+    content: &[u8],
+    case: &Case<'_>,
+) -> Result<(), Fail> {
+    let files = [File { content, ..FILE }];
+    check(
+        rt,
+        &Case {
+            files: &files,
+            ..*case
+        },
+    )
+}
+
 #[test]
 fn rows_are_answered(rt: HostRuntime) -> Result<(), Fail> {
     for (content, input, sent) in ROWS {
-        let files = [File { content, ..FILE }];
-        check(
-            &rt,
-            &Case {
-                files: &files,
-                input: Some(input),
-                sent,
-                ..TABLE
-            },
-        )?;
+        let row = Case {
+            input: Some(input),
+            sent,
+            ..TABLE
+        };
+        check_row(&rt, content, &row)?;
     }
     Ok(())
 }
+
+// The other end doesn't close.
+const OPEN: [(&[u8], &[u8], End, &[u8]); 3] = [
+    (
+        b"[[row]]\npath = \"/h\"\npieces = [\"hello\"]\nwhole = true\n",
+        HEAD,
+        End::ShutDown,
+        HELLO_HEAD,
+    ),
+    (
+        b"[[row]]\npath = \"/\"\npieces = [\"abcd\"]\nlength = 3\n",
+        GET,
+        End::ShutDown,
+        ABC,
+    ),
+    (
+        b"[[row]]\npath = \"/\"\npieces = [\"abc\"]\nlength = 5\n",
+        GET,
+        End::Done,
+        SHORT,
+    ),
+];
 
 #[test]
 fn an_answer_closes_or_not(rt: HostRuntime) -> Result<(), Fail> {
-    let rows: [(&[u8], &[u8], End, &[u8]); 3] = [
-        (
-            b"[[row]]\npath = \"/h\"\npieces = [\"hello\"]\nwhole = true\n",
-            HEAD,
-            End::ShutDown,
-            HELLO_HEAD,
-        ),
-        (
-            b"[[row]]\npath = \"/\"\npieces = [\"abcd\"]\nlength = 3\n",
-            GET,
-            End::ShutDown,
-            ABC,
-        ),
-        (
-            b"[[row]]\npath = \"/\"\npieces = [\"abc\"]\nlength = 5\n",
-            GET,
-            End::Done,
-            SHORT,
-        ),
-    ];
-    for (content, input, end, sent) in rows {
-        let files = [File { content, ..FILE }];
-        check(
-            &rt,
-            &Case {
-                files: &files,
-                input: Some(input),
-                ends: false,
-                stop_at: Some(40),
-                end,
-                sent,
-                ..TABLE
-            },
-        )?;
+    for (content, input, end, sent) in OPEN {
+        let row = Case {
+            input: Some(input),
+            ends: false,
+            stop_at: Some(40),
+            end,
+            sent,
+            ..TABLE
+        };
+        check_row(&rt, content, &row)?;
     }
     Ok(())
 }
 
-// What stands in the file, which call on it fails, how often it then failed, and what is reported.
-const FAULTS: [(&[u8], Option<u64>, u64, &[u8]); 9] = [
+// What stands in the file, which call on it fails, how often it then failed, and the reason.
+const FAULTS: [(&[u8], Option<u64>, u64, &str); 9] = [
     (
         b"[[row]]\npath = \"/\"\n",
         Some(0),
         1,
-        b"waitress-serve: the application could not be made: the file could not be read\n",
+        "the file could not be read",
     ),
     (
         b"[[row]]\npath = \"/\"\n",
         Some(1),
         1,
-        b"waitress-serve: the application could not be made: the file could not be read\n",
+        "the file could not be read",
     ),
-    (
-        b"[[row]\npath = \"/\"\n",
-        None,
-        0,
-        b"waitress-serve: the application could not be made: the file is not TOML\n",
-    ),
+    (b"[[row]\npath = \"/\"\n", None, 0, "the file is not TOML"),
+    (b"\xFF", None, 0, "the file is not TOML"),
     (
         b"[[rows]]\npath = \"/\"\n",
         None,
         0,
-        b"waitress-serve: the application could not be made: the file is not a table\n",
+        "the file is not a table",
     ),
-    (
-        b"[[row]]\npth = \"/\"\n",
-        None,
-        0,
-        b"waitress-serve: the application could not be made: row 1 is bad\n",
-    ),
+    (b"[[row]]\npth = \"/\"\n", None, 0, "row 1 is bad"),
     (
         b"[[row]]\npath = \"/\"\nwhole = true\npieces = [\"a\", \"b\"]\n",
         None,
         0,
-        b"waitress-serve: the application could not be made: row 1 is bad\n",
-    ),
-    (
-        b"[[row]]\npath = \"/\"\n[[row]]\npath = \"a\"\n[[row]]\n",
-        None,
-        0,
-        b"waitress-serve: the application could not be made: row 2 is bad\n",
+        "row 1 is bad",
     ),
     (
         b"[[row]]\npath = \"/\"\nlength = -1\n",
         None,
         0,
-        b"waitress-serve: the application could not be made: row 1 is bad\n",
+        "row 1 is bad",
     ),
     (
-        b"\xFF",
+        b"[[row]]\npath = \"/\"\n[[row]]\npath = \"a\"\n[[row]]\n",
         None,
         0,
-        b"waitress-serve: the application could not be made: the file is not TOML\n",
+        "row 2 is bad",
     ),
 ];
 
-// Nothing is bound, printed or served.
+// The application can't be made: nothing is bound, printed or served, and the reason is reported.
+fn check_fault<R: Threads + Wait + Abort + AllocGlobal + Sync>(
+    rt: &R,
+    file: File<'_>,
+    tree_faults: u64,
+    reason: &str,
+) -> Result<(), Fail> {
+    let alloc = rt.alloc();
+    let err = format!(in alloc; "waitress-serve: the application could not be made: {reason}\n")?;
+    let files = [file];
+    let refused = Case {
+        words: "--threads=0|table|t.toml",
+        files: &files,
+        tree_faults,
+        bind_fails: true,
+        out_fails: true,
+        input: Some(GET),
+        status: 2,
+        out: b"",
+        err: err.as_bytes(),
+        ..ALONE
+    };
+    check(rt, &refused)?;
+    check(
+        rt,
+        &Case {
+            err_fails: true,
+            status: 6,
+            err: b"",
+            ..refused
+        },
+    )
+}
+
 #[test]
 fn faults_of_tables_are_reported(rt: HostRuntime) -> Result<(), Fail> {
-    for (content, fails, tree_faults, err) in FAULTS {
-        let files = [File {
+    for (content, fails, tree_faults, reason) in FAULTS {
+        let file = File {
             content,
             fails,
             ..FILE
-        }];
-        let refused = Case {
-            files: &files,
-            tree_faults,
-            bind_fails: true,
-            out_fails: true,
-            input: Some(GET),
-            err,
-            ..REFUSED
         };
-        check(&rt, &refused)?;
-        check(
-            &rt,
-            &Case {
-                err_fails: true,
-                status: 6,
-                err: b"",
-                ..refused
-            },
-        )?;
+        check_fault(&rt, file, tree_faults, reason)?;
     }
     Ok(())
 }
@@ -231,69 +235,49 @@ fn faults_of_tables_are_reported(rt: HostRuntime) -> Result<(), Fail> {
 fn rows_of(alloc: Global, count: usize) -> Result<Vec<u8>, AllocError> {
     let mut text = Vec::new(alloc);
     for _ in 0..count {
-        text.extend_from_slice(b"[[row]]\npath = \"/\"\n")?;
+        text.extend_from_slice(b"[[row]]\npath = \"/a\"\n")?;
     }
     Ok(text)
 }
 
 #[test]
-fn tables_have_their_limits(rt: HostRuntime) -> Result<(), Fail> {
+fn rows_are_counted(rt: HostRuntime) -> Result<(), Fail> {
+    let alloc = rt.alloc();
+    let most = rows_of(alloc, 1000)?;
+    check_row(
+        &rt,
+        &most,
+        &Case {
+            sent: MISSING,
+            ..TABLE
+        },
+    )?;
+    let more = rows_of(alloc, 1001)?;
+    let file = File {
+        content: &more,
+        ..FILE
+    };
+    check_fault(&rt, file, 0, "too many rows")
+}
+
+#[test]
+fn bytes_are_counted(rt: HostRuntime) -> Result<(), Fail> {
     let alloc = rt.alloc();
     let longest = vec![in alloc; b'\n'; 1_048_576]?;
-    let longer = vec![in alloc; b'\n'; 1_048_577]?;
-    let most = rows_of(alloc, 1000)?;
-    let more = rows_of(alloc, 1001)?;
+    check_row(
+        &rt,
+        &longest,
+        &Case {
+            sent: MISSING,
+            ..TABLE
+        },
+    )?;
     // A file that is too large isn't read, so its read doesn't fail.
-    let rows: [(&[u8], Option<u64>, Case<'_>); 4] = [
-        (
-            &longest,
-            None,
-            Case {
-                sent: MISSING,
-                ..TABLE
-            },
-        ),
-        (
-            &longer,
-            Some(1),
-            Case {
-                retired: 0,
-                sent: b"",
-                err: b"waitress-serve: the application could not be made: the file is too large\n",
-                ..REFUSED
-            },
-        ),
-        (
-            &most,
-            None,
-            Case {
-                input: Some(b"GET /a HTTP/1.1\r\nHost: a\r\n\r\n"),
-                sent: MISSING,
-                ..TABLE
-            },
-        ),
-        (
-            &more,
-            None,
-            Case {
-                err: b"waitress-serve: the application could not be made: too many rows\n",
-                ..REFUSED
-            },
-        ),
-    ];
-    for (content, fails, case) in rows {
-        let files = [File {
-            content,
-            fails,
-            ..FILE
-        }];
-        check(
-            &rt,
-            &Case {
-                files: &files,
-                ..case
-            },
-        )?;
-    }
-    Ok(())
+    let longer = vec![in alloc; b'\n'; 1_048_577]?;
+    let file = File {
+        content: &longer,
+        fails: Some(1),
+        ..FILE
+    };
+    check_fault(&rt, file, 0, "the file is too large")
 }
