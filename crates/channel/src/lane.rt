@@ -82,6 +82,13 @@ impl<'a, L: Link + Drop, A: App<S>, S: Spill + Send + Drop> Lane<'a, L, A, S> {
         self.channel.is_due()
     }
 
+    /// How many bytes of the answers wait to be sent.
+    pub fn output_len(&self) -> u64
+        ensures { result ≡ self.now.shown.output }
+    {
+        self.channel.output_len()
+    }
+
     /// Makes one recv into the room, where more is to be taken in.
     pub fn read<P: Spills<Spill = S>>(&mut self, now: u64, room: &mut [u8], spills: &mut P) -> Acted
         requires room { length room.old ≡ self.old.fixed.window.recv_bytes }

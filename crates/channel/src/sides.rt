@@ -142,6 +142,12 @@ impl<'a, L: Link + Drop, A: App<S>, S: Spill + Send + Drop> Channel<'a, L, A, S>
             && self.state.output_len() <= self.near.window.high_watermark
     }
 
+    pub(crate) fn output_len(&self) -> u64
+        ensures { result ≡ output_length (state_of self.now.state) }
+    {
+        self.state.output_len()
+    }
+
     pub(crate) fn read<P: Spills<Spill = S>>(
         &mut self,
         now: u64,

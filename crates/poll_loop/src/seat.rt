@@ -52,6 +52,9 @@ pub(crate) struct Seat<'a, L: Link, A: App<S>, S: Spill> {
 // So many steps are made at most before the others have their turn.
 const STRIDE: usize = 16;
 
+// Where so many bytes wait, they are sent before a further step is made.
+const ENOUGH: u64 = 32_768;
+
 // Reads where it wants to and may.
 fn hear<'a, L: Link + Drop, A: App<S>, S: Spill + Send + Drop, P: Spills<Spill = S>>(
     lane: &mut Lane<'a, L, A, S>,
@@ -80,7 +83,7 @@ fn hear<'a, L: Link + Drop, A: App<S>, S: Spill + Send + Drop, P: Spills<Spill =
     }
 }
 
-// Begins units and makes steps, until none can be made or enough were.
+// Begins units and makes steps, until none can be made, enough were, or enough waits to be sent.
 fn stride<'a, L: Link + Drop, A: App<S>, S: Spill + Send + Drop>(lane: &mut Lane<'a, L, A, S>)
     requires alive { lane.old.shown.dead ≡ None }
     ensures link { lane.new.link ≡ lane.old.link }
@@ -95,6 +98,9 @@ fn stride<'a, L: Link + Drop, A: App<S>, S: Spill + Send + Drop>(lane: &mut Lane
             Progress::Rest => return,
             Progress::Dead => return,
             Progress::Broke(_) => return,
+        }
+        if ENOUGH <= lane.output_len() {
+            return;
         }
     }
 }
