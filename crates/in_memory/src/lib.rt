@@ -32,6 +32,7 @@ use std::thread::Threads;
 use waitress_serve::run;
 
 /// All that the program touches.
+#[derive(Drop)]
 pub struct Memory {
     pub net: MemNet,
     pub tree: MemTree,

@@ -4,16 +4,13 @@ ghost use Rattle.outside.specs.Moments.{NeverFalls};
 
 use crate::disk::{File, tree_of};
 use crate::texts::{ANSWER, REQUEST, SERVING};
-use outside::{
-    Bytes, Comer, End, Items, LinkPlan, MemNet, MemSink, MemSpills, MemTree, MemTrigger, NetPlan,
-    Peer,
-};
+use in_memory::{Memory, run_in_memory};
+use outside::{Bytes, Comer, End, Items, LinkPlan, MemNet, MemSink, MemSpills, NetPlan, Peer};
 use std::alloc::{AllocError, Global};
 use std::process::Abort;
 use std::sync::Wait;
 use std::test::Fail;
 use std::thread::Threads;
-use waitress_serve::run;
 
 pub(crate) const SUNDAY: u64 = 784_111_777;
 
@@ -158,24 +155,9 @@ fn net(alloc: Global, case: &Case<'_>) -> Result<MemNet, Fail> {
 pub(crate) fn status_of<R: Threads + Wait + AllocGlobal + Sync>(
     rt: &R,
     words: &[String],
-    net: &mut MemNet,
-    tree: &mut MemTree,
-    out: &mut MemSink,
-    err: &mut MemSink,
+    held: &mut Memory,
 ) -> u8 {
-    let alloc = rt.alloc();
-    let mut spills = MemSpills::new(alloc, Vec::new(alloc));
-    run(
-        rt,
-        alloc,
-        words,
-        net,
-        tree,
-        &mut spills,
-        out,
-        err,
-        &MemTrigger::new(),
-    )
+    run_in_memory(rt, rt.alloc(), words, held)
 }
 
 // The words that stand between the |.
@@ -194,16 +176,19 @@ pub(crate) fn check<R: Threads + Wait + Abort + AllocGlobal + Sync>(
 ) -> Result<(), Fail> {
     let alloc = rt.alloc();
     let words = split(alloc, case.words)?;
-    let mut net = net(alloc, case)?;
-    let mut out = MemSink::new(alloc, failing(alloc, first(case.out_fails))?);
-    let mut err = MemSink::new(alloc, failing(alloc, first(case.err_fails))?);
-    let mut tree = tree_of(alloc, case.files)?;
-    let status = status_of(rt, &words, &mut net, &mut tree, &mut out, &mut err);
+    let mut held = Memory {
+        net: net(alloc, case)?,
+        tree: tree_of(alloc, case.files)?,
+        spills: MemSpills::new(alloc, Vec::new(alloc)),
+        out: MemSink::new(alloc, failing(alloc, first(case.out_fails))?),
+        err: MemSink::new(alloc, failing(alloc, first(case.err_fails))?),
+    };
+    let status = status_of(rt, &words, &mut held);
     assert_eq!(rt; status, case.status);
-    assert_eq!(rt; tree.faults(), case.tree_faults);
-    assert_eq!(rt; out.written(), case.out);
-    assert_eq!(rt; err.written(), case.err);
-    match net.closed() {
+    assert_eq!(rt; held.tree.faults(), case.tree_faults);
+    assert_eq!(rt; held.out.written(), case.out);
+    assert_eq!(rt; held.err.written(), case.err);
+    match held.net.closed() {
         [] => assert!(rt; case.retired == 0),
         [entry] => {
             assert!(rt; case.retired == 1);

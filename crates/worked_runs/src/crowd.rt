@@ -5,8 +5,9 @@ ghost use Rattle.outside.specs.Moments.{NeverFalls};
 use crate::case::{SUNDAY, failing, split, status_of};
 use crate::disk::{File, tree_of};
 use crate::texts::{ANSWER, REQUEST, SERVING};
+use in_memory::Memory;
 use outside::{
-    Bytes, Comer, End, Items, LinkPlan, MemLink, MemNet, MemSink, NetPlan, Peer, Retired,
+    Bytes, Comer, End, Items, LinkPlan, MemLink, MemNet, MemSink, MemSpills, NetPlan, Peer, Retired,
 };
 use std::alloc::{AllocError, Global};
 use std::process::Abort;
@@ -225,17 +226,20 @@ pub(crate) fn check_crowd<R: Threads + Wait + Abort + AllocGlobal + Sync>(
 ) -> Result<(), Fail> {
     let alloc = rt.alloc();
     let words = split(alloc, crowd.words)?;
-    let mut net = net(alloc, crowd)?;
-    let mut out = MemSink::new(alloc, Vec::new(alloc));
-    let mut err = MemSink::new(alloc, Vec::new(alloc));
-    let mut tree = tree_of(alloc, crowd.files)?;
-    let status = status_of(rt, &words, &mut net, &mut tree, &mut out, &mut err);
+    let mut held = Memory {
+        net: net(alloc, crowd)?,
+        tree: tree_of(alloc, crowd.files)?,
+        spills: MemSpills::new(alloc, Vec::new(alloc)),
+        out: MemSink::new(alloc, Vec::new(alloc)),
+        err: MemSink::new(alloc, Vec::new(alloc)),
+    };
+    let status = status_of(rt, &words, &mut held);
     assert_eq!(rt; status, 0);
-    assert_eq!(rt; tree.faults(), crowd.tree_faults);
-    assert_eq!(rt; out.written(), SERVING);
-    assert!(rt; err.written().is_empty());
+    assert_eq!(rt; held.tree.faults(), crowd.tree_faults);
+    assert_eq!(rt; held.out.written(), SERVING);
+    assert!(rt; held.err.written().is_empty());
     if let Some(asked) = crowd.asked {
-        assert_eq!(rt; net.asked(), asked);
+        assert_eq!(rt; held.net.asked(), asked);
     }
-    check_guests(rt, crowd, net.closed())
+    check_guests(rt, crowd, held.net.closed())
 }

@@ -126,24 +126,31 @@ fn a_browser_gets_a_page(rt: HostRuntime) -> Result<(), Fail> {
     )
 }
 
-// The second piece of a page can't be read: a text is sent once it is whole.
+// The second piece of a page can't be read: its head and its first piece are sent.
 #[test]
-fn a_failing_read_sends_nothing(rt: HostRuntime) -> Result<(), Fail> {
+fn a_failing_read_ends_what_is_sent(rt: HostRuntime) -> Result<(), Fail> {
     let page = long_page(rt.alloc())?;
+    let Some(piece) = page.get(..32_768) else {
+        return Err(Fail::from("a short page"));
+    };
     let files = [File {
         name: b"site/index.html",
         content: &page,
         fails: Some(2),
     }];
-    check(
+    let guests = [Guest {
+        input: &[BROWSER],
+        end: End::AppFault,
+        sent: &[LONG_PAGE_HEAD, piece],
+        ..ONE
+    }];
+    check_crowd(
         &rt,
-        &Case {
+        &Crowd {
             files: &files,
             tree_faults: 1,
-            input: Some(BROWSER),
-            end: End::AppFault,
-            sent: b"",
-            ..FOLDER
+            guests: &guests,
+            ..FOLDERS
         },
     )
 }
