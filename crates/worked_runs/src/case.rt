@@ -22,6 +22,8 @@ pub(crate) struct Case<'a> {
     // the moment of all turns, but for that of the first where it is earlier
     pub(crate) moment: u64,
     pub(crate) begins_earlier: bool,
+    // how much later than that the turns from 7 on are
+    pub(crate) late: u64,
     pub(crate) stop_at: Option<u64>,
     pub(crate) bind_fails: bool,
     // the number of the poll, and of the accept, that fails, from 0
@@ -55,6 +57,7 @@ pub(crate) const SERVED: Case<'static> = Case {
     words: "--threads=0|echo",
     moment: SUNDAY,
     begins_earlier: false,
+    late: 0,
     stop_at: None,
     bind_fails: false,
     poll_fails: None,
@@ -100,7 +103,12 @@ fn first(fails: bool) -> Option<u64> {
     if fails { Some(0) } else { None }
 }
 
-fn moments(alloc: Global, moment: u64, begins_earlier: bool) -> Result<Items<u64>, AllocError>
+fn moments(
+    alloc: Global,
+    moment: u64,
+    begins_earlier: bool,
+    late: u64,
+) -> Result<Items<u64>, AllocError>
     ensures some { IfOk result (λ moments. 0 < length moments) }
     ensures rising { IfOk result (λ moments. NeverFalls moments) }
 {
@@ -109,7 +117,10 @@ fn moments(alloc: Global, moment: u64, begins_earlier: bool) -> Result<Items<u64
     } else {
         moment
     };
-    Ok(Items::from_vec(vec![in alloc; first, moment]?))
+    let last = moment.saturating_add(late);
+    Ok(Items::from_vec(vec![in alloc;
+        first, moment, moment, moment, moment, moment, moment, last,
+    ]?))
 }
 
 fn comer(alloc: Global, case: &Case<'_>, input: &[u8]) -> Result<Comer, AllocError> {
@@ -142,7 +153,7 @@ fn net(alloc: Global, case: &Case<'_>) -> Result<MemNet, Fail> {
     }
     let plan = NetPlan {
         comers: Items::from_vec(comers),
-        moments: moments(alloc, case.moment, case.begins_earlier)?,
+        moments: moments(alloc, case.moment, case.begins_earlier, case.late)?,
         stop_at: case.stop_at,
         bind_fails: case.bind_fails,
         poll_fails: Items::from_vec(failing(alloc, case.poll_fails)?),

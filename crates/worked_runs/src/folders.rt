@@ -97,31 +97,42 @@ fn long_page(alloc: Global) -> Result<Vec<u8>, AllocError> {
     Ok(page)
 }
 
+// A text and the front of another, so many bytes of it.
+fn with_front(
+    alloc: Global,
+    text: &[u8],
+    other: &[u8],
+    count: usize,
+) -> Result<Vec<u8>, AllocError> {
+    let mut whole = Vec::from_slice(alloc, text)?;
+    if let Some(front) = other.get(..count) {
+        whole.extend_from_slice(front)?;
+    }
+    Ok(whole)
+}
+
 #[test]
 fn a_browser_gets_a_page(rt: HostRuntime) -> Result<(), Fail> {
     let page = long_page(rt.alloc())?;
+    let sent = with_front(rt.alloc(), LONG_PAGE_HEAD, &page, 70_000)?;
     let files = [File {
         name: b"site/index.html",
         content: &page,
         fails: None,
     }];
-    let guests = [Guest {
-        input: &[BROWSER],
-        ends: false,
-        end: End::TimedOut {
-            touched: SUNDAY,
-            now: SUNDAY + 121,
-        },
-        sent: &[LONG_PAGE_HEAD, &page],
-        ..ONE
-    }];
-    check_crowd(
+    check(
         &rt,
-        &Crowd {
-            later: [0, 0, 0, 0, 0, 0, 121],
+        &Case {
             files: &files,
-            guests: &guests,
-            ..FOLDERS
+            late: 121,
+            input: Some(BROWSER),
+            ends: false,
+            end: End::TimedOut {
+                touched: SUNDAY,
+                now: SUNDAY + 121,
+            },
+            sent: &sent,
+            ..FOLDER
         },
     )
 }
@@ -130,27 +141,22 @@ fn a_browser_gets_a_page(rt: HostRuntime) -> Result<(), Fail> {
 #[test]
 fn a_failing_read_ends_what_is_sent(rt: HostRuntime) -> Result<(), Fail> {
     let page = long_page(rt.alloc())?;
-    let Some(piece) = page.get(..32_768) else {
-        return Err(Fail::from("a short page"));
-    };
+    let sent = with_front(rt.alloc(), LONG_PAGE_HEAD, &page, 32_768)?;
     let files = [File {
         name: b"site/index.html",
         content: &page,
         fails: Some(2),
     }];
-    let guests = [Guest {
-        input: &[BROWSER],
-        end: End::AppFault,
-        sent: &[LONG_PAGE_HEAD, piece],
-        ..ONE
-    }];
-    check_crowd(
+    check(
         &rt,
-        &Crowd {
+        &Case {
             files: &files,
             tree_faults: 1,
-            guests: &guests,
-            ..FOLDERS
+            input: Some(BROWSER),
+            takes: 65_536,
+            end: End::AppFault,
+            sent: &sent,
+            ..FOLDER
         },
     )
 }
