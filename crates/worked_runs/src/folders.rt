@@ -111,54 +111,47 @@ fn with_front(
     Ok(whole)
 }
 
+// A browser asks for a page, and stays.
+const BROWSED: Case<'static> = Case {
+    late: 121,
+    input: Some(BROWSER),
+    ends: false,
+    end: End::TimedOut {
+        touched: SUNDAY,
+        now: SUNDAY + 121,
+    },
+    ..FOLDER
+};
+
+// The second piece of a page can't be read: its head and its first piece are sent.
+const CUT: Case<'static> = Case {
+    tree_faults: 1,
+    input: Some(BROWSER),
+    takes: 65_536,
+    end: End::AppFault,
+    ..FOLDER
+};
+
 #[test]
 fn a_browser_gets_a_page(rt: HostRuntime) -> Result<(), Fail> {
     let page = long_page(rt.alloc())?;
-    let sent = with_front(rt.alloc(), LONG_PAGE_HEAD, &page, 70_000)?;
-    let files = [File {
-        name: b"site/index.html",
-        content: &page,
-        fails: None,
-    }];
-    check(
-        &rt,
-        &Case {
-            files: &files,
-            late: 121,
-            input: Some(BROWSER),
-            ends: false,
-            end: End::TimedOut {
-                touched: SUNDAY,
-                now: SUNDAY + 121,
+    for (case, fails, count) in [(BROWSED, None, 70_000), (CUT, Some(2), 32_768)] {
+        let sent = with_front(rt.alloc(), LONG_PAGE_HEAD, &page, count)?;
+        let files = [File {
+            name: b"site/index.html",
+            content: &page,
+            fails,
+        }];
+        check(
+            &rt,
+            &Case {
+                files: &files,
+                sent: &sent,
+                ..case
             },
-            sent: &sent,
-            ..FOLDER
-        },
-    )
-}
-
-// The second piece of a page can't be read: its head and its first piece are sent.
-#[test]
-fn a_failing_read_ends_what_is_sent(rt: HostRuntime) -> Result<(), Fail> {
-    let page = long_page(rt.alloc())?;
-    let sent = with_front(rt.alloc(), LONG_PAGE_HEAD, &page, 32_768)?;
-    let files = [File {
-        name: b"site/index.html",
-        content: &page,
-        fails: Some(2),
-    }];
-    check(
-        &rt,
-        &Case {
-            files: &files,
-            tree_faults: 1,
-            input: Some(BROWSER),
-            takes: 65_536,
-            end: End::AppFault,
-            sent: &sent,
-            ..FOLDER
-        },
-    )
+        )?;
+    }
+    Ok(())
 }
 
 const GET_A: &[u8] = b"GET /a HTTP/1.1\r\nHost: a\r\n\r\n";
