@@ -45,13 +45,10 @@ unfoldable pub command_line : App
 command_line = command_with rules
 
 -- Whether the command line has a place for each of the words. It has none for an option that is no
--- row
--- of the table or stands twice, for a value given to a flag, for an option at the end that waits
--- for its
--- value, for a value that begins with `-` and has more bytes, unless it stands behind `=`, and for
--- a
--- third operand. A word without bytes is an operand or a value, and behind `--` every word is an
--- operand.
+-- row of the table or stands twice, for a value given to a flag, for an option at the end that
+-- waits for its value, for a value that begins with `-` and has more bytes, unless it stands behind
+-- `=`, and for a third operand. A word without bytes is an operand or a value, and behind `--`
+-- every word is an operand.
 unfoldable pub are_taken : List (List ℕ) → Bool
 are_taken words = is_empty (fault_of command_line words)
 

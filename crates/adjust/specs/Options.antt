@@ -18,8 +18,7 @@ use Rattle.adjust.specs.declared.options.Field.TheVariants as field
 use Rattle.adjust.specs.declared.options.OptionRow.{OptionRow}
 
 -- an option: its name, what its value has to be, what it shows as, and the value that stands where
--- none is given,
--- which is empty where there is none
+-- none is given, which is empty where there is none
 pub record Row : Type 0 where
   pub name : List ℕ
   pub form : Form

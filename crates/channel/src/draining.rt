@@ -115,8 +115,7 @@ impl<L: Link + Drop, A: App<S>, S: Spill + Send + Drop> Near<L, A, S> {
     }
 
     /// Makes one send where there is something to send, and ends the channel where nothing moved
-    /// for too
-    /// long.
+    /// for too long.
     pub(crate) fn check_idle(
         &mut self,
         now: u64,

@@ -1,6 +1,5 @@
 //! Two gates for tests: over a list of numbers, which the left end adds and the right end takes,
-//! and over a record of
-//! which ends have had a turn.
+//! and over a record of which ends have had a turn.
 #![tactic(auto)]
 
 mod pact;

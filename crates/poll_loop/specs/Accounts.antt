@@ -32,8 +32,7 @@ use Rattle.poll_loop.specs.declared.settings.ServeFault.{ServeFault}
 use Rattle.poll_loop.specs.declared.settings.ServeFault.TheVariants as fault
 
 -- What is known at a moment: the net, the faults of the spills that were settled, how many runs
--- broke, and
--- who is open, by peer and plan.
+-- broke, and who is open, by peer and plan.
 pub record Books (L P : Type 0) : Type 0 where
   pub net : NetState L P
   pub spills : ℕ
@@ -53,8 +52,7 @@ pub record TimeGoesOn {L P : Type 0} (old new : NetState L P) : Type 0 where
   pub later : last_moment old.last ≤ last_moment new.last
 
 -- Who was open or came since was retired or is open, each with its own peer and plan; a spill was
--- settled for
--- each fault of one, and a run kept for each fault of the application.
+-- settled for each fault of one, and a run kept for each fault of the application.
 pub record Accounts {L P : Type 0} (Holds : NetState L P → Retired L → Type 0) (plan : L → P)
     (old new : Books L P) : Type 0 where
   pub entries : List (Retired L)

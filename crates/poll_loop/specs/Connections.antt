@@ -73,8 +73,7 @@ abbrev pub shutting_down : Type 0 → Grounds
 shutting_down broke = record { shutdown = Unit {0}; broke = broke }
 
 -- What holds of an entry while serving goes on, and where the server goes down: by the kinds of
--- links, of spills, of the
--- application and of its runs.
+-- links, of spills, of the application and of its runs.
 abbrev pub holds_on : {L P S A R : Type 0} → Links L P → Spills S → Apps A S R → Runs R S →
     Settings → A → NetState L P → Retired L → Type 0
 holds_on link spill app run settings a =
@@ -176,8 +175,7 @@ CameAll came.Failed old new = Unit {0}
 CameAll came.NoMemory old new = Unit {0}
 
 -- The net was asked until it put off, unless so many came as there was room for beside those that
--- were open, or
--- all that are to be served were accepted.
+-- were open, or all that are to be served were accepted.
 abbrev pub AcceptsAll : {L P : Type 0} → Settings → ℕ → ℕ → NetState L P → NetState L P → Type 0
 AcceptsAll settings open' accepted old new =
     Rose old.put_off new.put_off ⊎ ((settings.connection_limit + length old.given ≤ open' + length

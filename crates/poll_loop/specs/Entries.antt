@@ -36,16 +36,14 @@ pub record IsTimely {L P : Type 0} (net : NetState L P) (link : LinkState) : Typ
   pub touched : IsWithin net link.touched
 
 -- What connections are served by: which of its parts tell, after how long an idle one ends, and
--- what a peer
--- is owed for what it sent.
+-- what a peer is owed for what it sent.
 pub record Service : Type 0 where
   pub tells : Telling
   pub timeout : ℕ
   pub owed : Peer → Input → Owed
 
 -- Why serving may end connections that are not done, and did nothing: the whole server went down,
--- or the run
--- of an application broke.
+-- or the run of an application broke.
 pub record Grounds : Type 1 where
   pub shutdown : Type 0
   pub broke : Type 0
@@ -64,8 +62,7 @@ EndHolds service grounds net link faults owed (over.TimedOut touched now) =
 EndHolds service grounds net link faults owed over.ShutDown = grounds.shutdown
 
 -- A retired link was sent a prefix of what is owed for what arrived there, at moments of the net,
--- and its end
--- has its cause.
+-- and its end has its cause.
 pub record EntryHolds {L P : Type 0} (service : Service) (grounds : Grounds) (state : L → LinkState)
     (faults : L → ℕ) (net : NetState L P) (entry : Retired L) : Type 0 where
   pub prefix : IsTrue service.tells.all →

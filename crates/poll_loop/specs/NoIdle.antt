@@ -58,10 +58,8 @@ use Rattle.poll_loop.specs.declared.settings.Settings.{Settings}
 -- ---- a server
 
 -- A server as contracts see it: what it goes by, its open connections in the order in which they
--- came, how
--- many it accepted and retired, the moment of its last idle check, or else of its first turn, and
--- the runs
--- that broke.
+-- came, how many it accepted and retired, the moment of its last idle check, or else of its first
+-- turn, and the runs that broke.
 pub record Serving (L A R : Type 0) : Type 0 where
   pub app : A
   pub settings : Settings
@@ -90,8 +88,7 @@ checked_by now None = now
 checked_by now (Some moment) = moment
 
 -- the moment from which the next idle check is counted, behind a turn of this moment: this one,
--- where a check
--- was due
+-- where a check was due
 abbrev pub checked_after : ℕ → Option ℕ → ℕ → Option ℕ
 checked_after now checked interval =
     Some (if nat_le (checked_by now checked + interval) now then now else checked_by now checked)
@@ -105,8 +102,7 @@ pub record Hosts {L P A : Type 0} (e : Eyes L P) (net : NetState L P) (lanes : L
 -- ---- a turn
 
 -- One channel that was open when the turn began: its want as the poll left it, the channel then,
--- and the
--- channel at the end of the turn, where it was not retired.
+-- and the channel at the end of the turn, where it was not retired.
 pub record Case : Type 0 where
   pub ready : Want
   pub old : View
@@ -203,8 +199,7 @@ pub record NoIdle {L P A R : Type 0} (e : Eyes L P) (before now : Serving L A R)
   pub few : length came ≤ length since
   pub answers : IsTrue poll.turn.come → Answers old new
   -- where somebody came, the net was asked until it put off, unless so many came as there is room
-  -- for or are to
-  -- be served
+  -- for or are to be served
   pub all : IsTrue poll.turn.come → Rose old.put_off new.put_off ⊎
       ((before.settings.connection_limit ≤ length before.open' + length since) ⊎
       (is_below before.settings.serve_limit now.accepted ≡ false))

@@ -156,8 +156,7 @@ MarkHolds w mark.Works s = is_due w s ≡ true
 MarkHolds w (mark.Over end) s = ⊥
 
 -- A seat between two turns: it is up, its want is that of its channel, and its mark says whether a
--- step can
--- be made.
+-- step can be made.
 pub record SeatHolds (w : Window) (want : Want) (m : Mark) (v : View) : Type 0 where
   pub up : IsUp v.shown
   pub marked : MarkHolds w m v.shown

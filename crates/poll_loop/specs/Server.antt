@@ -156,8 +156,7 @@ pub record Carries {L P A R : Type 0} (e : Eyes L P) (wants : List Want) (turn :
   pub few : length came ≤ length since
   pub answers : IsTrue turn.come → Answers old new
   -- where somebody came, the net was asked until it put off, unless so many came as there is room
-  -- for or are to
-  -- be served
+  -- for or are to be served
   pub all : IsTrue turn.come → Rose old.put_off new.put_off ⊎
       ((before.settings.connection_limit ≤ length before.open' + length since) ⊎
       (is_below before.settings.serve_limit now.accepted ≡ false))

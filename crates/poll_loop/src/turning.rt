@@ -128,8 +128,7 @@ impl Why {
 
 impl<'a, N: Net, A: App<P::Spill>, P: Spills> Server<'a, N, A, P> {
     // Reads, makes steps, sends, makes the idle check where it is due, and retires what is over.
-    // The poll
-    // was asked for the first so many connections.
+    // The poll was asked for the first so many connections.
     fn work(&mut self, asked: usize, now: u64, net: &mut N, spills: &mut P)
         requires stands { Stands (eyes_of N.Link.Link) A.Run.faults self.old }
         requires asks { Paired (SeatAsks (eyes_of N.Link.Link) self.old.settings.now.window)

@@ -30,8 +30,7 @@ abbrev pub most_taken : ℕ
 most_taken = 50
 
 -- No answer is more than 80 bytes longer than its request, and a send takes a byte at least, so
--- there are not
--- more sends than this.
+-- there are not more sends than this.
 abbrev pub send_count : ℕ → ℕ
 send_count connection = length (input_of connection) + 80 * request_count connection
 

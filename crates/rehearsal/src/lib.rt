@@ -1,6 +1,5 @@
 //! A rehearsal: connections in memory that all come at once, and what is told of them once they
-//! were
-//! served.
+//! were served.
 #![tactic(auto)]
 
 mod plan;

@@ -72,8 +72,7 @@ pub record Answer : Type 0 where
   pub closes : Bool
 
 -- the length that the step tells with which the head is written: that of the one byte string; at
--- the
--- script's end that of no body at all, which HEAD doesn't show
+-- the script's end that of no body at all, which HEAD doesn't show
 abbrev pub length_told : Bool → Option Step → Option ℕ
 length_told head_only (Some (Whole bytes)) = Some (length bytes)
 length_told head_only (Some (Piece bytes)) = None

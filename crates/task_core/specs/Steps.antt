@@ -39,8 +39,7 @@ abbrev pub onto : List ℕ → Answer → Answer
 onto text answer = record { text = text ++ answer.text; closes = answer.closes }
 
 -- Behind a step, what is left of each answer follows the text; or the text ended the answer,
--- whatever
--- steps would have come.
+-- whatever steps would have come.
 abbrev pub Follows : Option Bool → List ℕ → (List Step → Answer) → (List Step → Answer) → Type 0
 Follows None text old new = (rest : List Step) → old rest ≡ onto text (new rest)
 Follows (Some closes) text old new = (rest : List Step) →

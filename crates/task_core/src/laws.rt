@@ -8,8 +8,7 @@ ghost use Rattle.task_core.specs.ResponseHead.{head_text};
 use crate::CONTINUE;
 
 /// Over a whole script the parts that a task wrote, joined, are its answer, and after each step
-/// they
-/// are the front of it. An answer ends with the script's end at the latest.
+/// they are the front of it. An answer ends with the script's end at the latest.
 pub fn scripts_are_answered()
     ensures { ScriptsAreAnswered }
 {}

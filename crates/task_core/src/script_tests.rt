@@ -151,8 +151,7 @@ pub(crate) fn answer_to(
 }
 
 // A request, `dated` where its moment has a date; its script, where a Start is `S`, or `R` if it
-// may
-// replace another; whether the connection stays open or closes; the text that answers it.
+// may replace another; whether the connection stays open or closes; the text that answers it.
 #[test]
 fn scripts_are_answered(rt: HostRuntime) -> Result<(), Fail> {
     let alloc = rt.alloc();

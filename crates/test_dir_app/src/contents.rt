@@ -23,8 +23,7 @@ fn file(alloc: Global, size: usize) -> Result<String, AllocError> {
 }
 
 // The method, the target, the number of the call that fails, and the answer. The call 0 looks at
-// the
-// size, and the others read: a file that became shorter fails there.
+// the size, and the others read: a file that became shorter fails there.
 static ROWS: &str = "\
     GET > /big > - > 200 OK|Content-Type: application/octet-stream|Content-Length: 70000|piece 32768|piece 32768|piece 4464|faults 0\n\
     GET > /big > 0 > |outside|faults 1\n\

@@ -20,8 +20,7 @@ module _ {S L R F : Type 0} where
 
   module _ (agree : S → List L → List R → Type 0) (fixed : S → F) where
     -- The one slot is at home. It has the own lists of both ends, and a state that agrees with them
-    -- and
-    -- has the fixed part of each.
+    -- and has the fixed part of each.
     pub record IsHome (s : State (Option (Shelf S L R)) (View L R F)) (left right : View L R F) :
         Type 0 where
       pub shelf : Shelf S L R

@@ -1,6 +1,5 @@
 //! The table that the two ends share. Word 0 is `FREE`, or `HELD` while an end has the turn. Slot 0
-//! has the state while
-//! the word is free, and it is out with the end that has the turn.
+//! has the state while the word is free, and it is out with the end that has the turn.
 use crate::pact::Pact;
 use atomic_table::{Seat, Table, TableRule};
 use outside::Told;
@@ -27,8 +26,7 @@ pub struct Shelf<S, L, R> {
 }
 
 /// Which end a seat is. Until the gate is split there is one seat, whose slot is first vacant, then
-/// out with it to be
-/// filled, and then has the state.
+/// out with it to be filled, and then has the state.
 pub enum Side {
     Vacant,
     Filling,

@@ -1,11 +1,8 @@
 -- The environ of a request (PEP 3333, 'environ Variables'; RFC 3875, section 4.1). It lacks the
--- keys that
--- speak of the server's own objects (wsgi.version, .input, .errors, .multithread, .multiprocess,
--- .run_once)
--- and GATEWAY_INTERFACE. Three variables are looser than there: SERVER_NAME of an address of
--- version 6 has no
--- brackets, SCRIPT_NAME is the prefix of any path, and REMOTE_ADDR is any token that a trusted
--- proxy tells.
+-- keys that speak of the server's own objects (wsgi.version, .input, .errors, .multithread,
+-- .multiprocess, .run_once) and GATEWAY_INTERFACE. Three variables are looser than there:
+-- SERVER_NAME of an address of version 6 has no brackets, SCRIPT_NAME is the prefix of any path,
+-- and REMOTE_ADDR is any token that a trusted proxy tells.
 use Rattle.std.specs.Prelude.{
   ℕ,
   Bool,
