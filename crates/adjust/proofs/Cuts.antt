@@ -49,12 +49,3 @@ parts_whole commas text e = ap (filter has_bytes) (cut_none (is_separator commas
 pub parts_none : (commas : Bool) (text : List ℕ) → length text ≡ 0 → parts commas text ≡ []
 parts_none commas [] e = parts-nil commas
 parts_none commas (b ∷ bs) e = absurd (omega arith)
-
-pub onto_some : (part : List ℕ) (rest : List (List ℕ)) → 0 < length part →
-    onto_parts part rest ≡ part ∷ rest
-onto_some part rest some = ap (λ t. cond t (part ∷ rest) rest) (lt-ltb 0 (length part) some)
-
-pub onto_none : (part : List ℕ) (rest : List (List ℕ)) → length part ≡ 0 →
-    onto_parts part rest ≡ rest
-onto_none [] rest e = refl
-onto_none (b ∷ bs) rest e = absurd (omega arith)

@@ -41,16 +41,6 @@ one_more : {A : Type 0} (front : List A) (a : A) (rest : Option (List A)) →
 one_more front a None = refl
 one_more front a (Some more) = ap Some (sym (append_assoc front (a ∷ []) more))
 
-pub behind_read : {A : Type 0} (read : Data → Option A) (front : List A) (d : Data) (ds : Items)
-    (a : A) → read d ≡ Some a
-    → behind front (each read (item d ds)) ≡ behind (front ++ a ∷ []) (each read ds)
-behind_read read front d ds a h = rw h (one_more front a (each read ds))
-
-pub behind_refused : {A : Type 0} (read : Data → Option A) (front : List A) (d : Data)
-    (ds : Items) → read d ≡ None
-    → behind front (each read (item d ds)) ≡ None
-behind_refused read front d ds h = rw h
-
 -- the rows so far in front of those of the rest
 abbrev pub rows_behind : List Row → Result (List Row) TableFault → Result (List Row) TableFault
 rows_behind front rest = rest >>= (λ more. Ok (front ++ more))

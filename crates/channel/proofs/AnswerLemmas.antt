@@ -73,17 +73,6 @@ task_closes task made gives e steps = ap (λ (a : Answer). a.closes) (gives step
 module _ (old new : List Step → Answer) (step : Option Step) (wrote : Wrote)
     (goes : GoesBy old step wrote new) (shuts : (steps : List Step) →
     IsTrue (old steps).closes) where
-  pub goes_shut : wrote.ended ≡ None → (steps : List Step) → IsTrue (new steps).closes
-  goes_shut e steps = by step goes
-    where
-      by : (step : Option Step) → GoesBy old step wrote new → IsTrue (new steps).closes
-      by (Some s) goes =
-          let follows : (rest : List Step) → old (s ∷ rest) ≡ onto (text_of wrote) (new rest) =
-          subst (λ (x : Option Bool). Follows x (text_of wrote) (λ rest. old (s ∷ rest)) new) e
-          goes in
-          sym (ap (λ (a : Answer). a.closes) (follows steps)) ∙ shuts (s ∷ steps)
-      by None goes = absurd (subst (λ (x : Option Bool). Ends x (text_of wrote) (old [])) e goes)
-
   pub ends_shut : (closes : Bool) → wrote.ended ≡ Some closes → IsTrue closes
   ends_shut closes e = by step goes
     where

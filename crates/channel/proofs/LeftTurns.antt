@@ -62,20 +62,6 @@ module _ {A R S : Type 0} (known : Known A R S) where
             (mid l r was side) (first.answers l r was side a);
       }
 
-  -- nothing is done
-  pub left_same : (side : Side) (old new : State A R S) (entry : LeftEntry S) → new ≡ old →
-      entry.value ≡ [] → LTurns side side old new entry
-  left_same side old new entry e is = record {
-    fixed = ap (λ s. s.fixed) e;
-    agrees = λ l r was kept. subst (λ (acts : List (LeftAct S)). Agrees known new
-        (left_acts l acts) r) (sym is) (subst (λ (s : State A R S). Agrees known s l r)
-        (sym e) was);
-    keeps = λ l r was kept. subst (λ (acts : List (LeftAct S)). KeepsSide known.spill_tells
-        old.fixed.value.limits old.fixed.value.window.timeout side (left_acts l acts))
-        (sym is) kept;
-    answers = λ l r was kept a. subst (λ (s : State A R S). Answers side s) (sym e) a;
-  }
-
   -- a channel that is alive has nothing to answer for
   answers_alive : (side : Side) (state : State A R S) → state.dead ≡ None → Answers side state
   answers_alive side state alive = record {
@@ -88,55 +74,6 @@ module _ {A R S : Type 0} (known : Known A R S) where
       (alive : old.dead ≡ None) (tells : new_side.tells ≡ old_side.tells) where
     none : (l : LeftPast S) (r : RightPast S) → Agrees known old l r → l.killed ≡ None
     none l r was = none_killed _ _ _ _ _ _ _ _ was.death alive
-
-    -- the link was asked, and nothing came of it but that it may have ended
-    pub left_looks : new_side.buried ≡ old_side.buried → new ≡ old → entry.value ≡ [] →
-        new_side.story ≡ old_side.story →
-        (IsTrue old_side.tells → new_side.link.arrivals ≡ old_side.link.arrivals) →
-        (IsTrue old_side.tells → new_side.link.sent ≡ old_side.link.sent) →
-        ((IsTrue old_side.tells → old_side.ended ≡ old_side.link.ended) → IsTrue old_side.tells →
-        new_side.ended ≡ new_side.link.ended) →
-        ((IsTrue old_side.tells → old_side.touched ≡ old_side.link.touched) →
-        IsTrue old_side.tells → new_side.touched ≡ new_side.link.touched) →
-        LTurns old_side new_side old new entry
-    left_looks buried e is story arrivals sent ended touched = record {
-      fixed = ap (λ s. s.fixed) e;
-      agrees = λ l r was kept. subst (λ (acts : List (LeftAct S)). Agrees known new
-          (left_acts l acts) r) (sym is) (subst (λ (s : State A R S). Agrees known s l r)
-          (sym e) was);
-      keeps = λ l r was kept. subst (λ (acts : List (LeftAct S)). KeepsSide known.spill_tells
-          old.fixed.value.limits old.fixed.value.window.timeout new_side (left_acts l acts))
-          (sym is)
-          (side_looks _ _ _ _ _ l tells (none l r was) kept buried story arrivals sent
-          (ended kept.ended) (touched kept.touched));
-      answers = λ l r was kept a. answers_alive new_side new (ap (λ s. s.dead) e ∙ alive);
-    }
-
-    -- the output's spill was asked, and the link
-    pub left_touches : new_side.buried ≡ old_side.buried → (before after : Buffered S) →
-        old.output ≡ Some before → IsToldAs known.spill_tells after.bytes before.bytes →
-        new ≡ record old { output = Some after } → entry.value ≡ [] →
-        new_side.story ≡ old_side.story →
-        (IsTrue old_side.tells → new_side.link.arrivals ≡ old_side.link.arrivals) →
-        (IsTrue old_side.tells → new_side.link.sent ≡ old_side.link.sent) →
-        ((IsTrue old_side.tells → old_side.ended ≡ old_side.link.ended) → IsTrue old_side.tells →
-        new_side.ended ≡ new_side.link.ended) →
-        ((IsTrue old_side.tells → old_side.touched ≡ old_side.link.touched) →
-        IsTrue old_side.tells → new_side.touched ≡ new_side.link.touched) →
-        LTurns old_side new_side old new entry
-    left_touches buried before after had told e is story arrivals sent ended touched = record {
-      fixed = ap (λ s. s.fixed) e;
-      agrees = λ l r was kept. subst (λ (acts : List (LeftAct S)). Agrees known new
-          (left_acts l acts) r) (sym is)
-          (subst (λ (s : State A R S). Agrees known s l r) (sym e)
-          (touched_agrees known old l r before after alive had told was));
-      keeps = λ l r was kept. subst (λ (acts : List (LeftAct S)). KeepsSide known.spill_tells
-          old.fixed.value.limits old.fixed.value.window.timeout new_side (left_acts l acts))
-          (sym is)
-          (side_looks _ _ _ _ _ l tells (none l r was) kept buried story arrivals sent
-          (ended kept.ended) (touched kept.touched));
-      answers = λ l r was kept a. answers_alive new_side new (ap (λ s. s.dead) e ∙ alive);
-    }
 
     -- the link took bytes
     pub left_drains : new_side.buried ≡ old_side.buried →
@@ -546,12 +483,6 @@ drains_of known old_side new_side old mid new entry room count taken alive tells
     ∙ ap (λ n. take n skipped.0.bytes) (sym size))))
     skipped.4 is story arrivals (λ t. sent t ∙ ap (λ xs. old_side.link.sent ++ xs) same_bytes) ended
     touched
-
--- what stands in a `Vec` whose slice was lent whole
-pub written_back : (into items : List ℕ) (len : ℕ) → length into ≡ len →
-    take len (into ++ drop (length into) items) ≡ into
-written_back into items len e = ap (λ n. take n (into ++ drop (length into) items)) (sym e)
-    ∙ take-append_seam into (drop (length into) items)
 
 pub over_none : (dead : Option End) (done : Bool) (o : Option End) → o ≡ over_by dead done →
     is_some o ≡ false → dead ≡ None

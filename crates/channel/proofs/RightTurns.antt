@@ -139,27 +139,6 @@ module _ {A R S : Type 0} (known : Known A R S) (rest : R →
   Turns old_writing new_writing old new entry = TurnsRight known rest site script peer old_writing
       new_writing old new entry
 
-  -- nothing is done
-  pub right_looks : (writing new_writing : Writing R) (old new : State A R S)
-      (entry : RightEntry S) → new ≡ old → entry.value ≡ [] → is_busy new_writing
-      ≡ is_busy writing →
-      (IsTrue known.app_tells → still_gives rest writing ≡ still_gives rest new_writing) →
-      (Shuts writing → Shuts new_writing) → Turns writing new_writing old new entry
-  right_looks writing new_writing old new entry e none busy gives shuts = record {
-    fixed = ap (λ s. s.fixed) e;
-    agrees = λ l r goes was writes. subst (λ (acts : List (RightAct S)). Agrees known new l
-        (right_acts r acts)) (sym none) (subst (λ (s : State A R S). Agrees known s l r)
-        (sym e) was);
-    writes = λ l r goes was writes. subst (λ (acts : List (RightAct S)). KeepsWriting
-        known.app_tells rest site script peer new_writing (right_acts r acts)) (sym none)
-        (record {
-          busy = λ k. busy ∙ writes.busy k;
-          gives = λ k t c is. writes.gives k t c is ∙ ap (onto c.written) (gives t);
-          shuts = λ k c is ends. shuts (writes.shuts k c is ends);
-          shut = writes.shut;
-        });
-  }
-
   -- what the answer under way became before the turn
   pub turns_from : (writing mid_writing new_writing : Writing R) (old new : State A R S)
       (entry : RightEntry S) → is_busy mid_writing ≡ is_busy writing →
@@ -408,12 +387,3 @@ breaks_any {A} {R} {S} known rest old new why fallen entry alive broken e is = r
   turns = λ site script peer writing new_writing. right_breaks known rest site script peer old old
       new writing new_writing why fallen entry alive alive refl (λ l r was. was) broken e is;
 }
-
--- an answer is under way exactly where a unit is current
-pub busy_of : {A R S : Type 0} (known : Known A R S) (rest : R →
-    List Step) (site : Site) (script : Script) (peer : Peer) (writing : Writing R)
-    (state : State A R S) (l : LeftPast S) (r : RightPast S) →
-    state.dead ≡ None → Agrees known state l r → KeepsWriting known.app_tells rest site script peer
-    writing r → state.current ≡ is_busy writing
-busy_of known rest site script peer writing state l r alive was writes = was.course.current_is
-    ∙ sym (writes.busy (none_broke _ _ _ _ _ _ _ _ was.death alive))

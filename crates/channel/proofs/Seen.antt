@@ -25,13 +25,6 @@ use Rattle.channel.specs.declared.types.Window.{Window}
 
 module _ {A R S : Type 0} (old new : State A R S) (entry : LeftEntry S) (l : LeftPast S)
     (r : RightPast S) (left : ℕ) where
-  -- nothing was done
-  pub shown_looks : (story : Story) (ended : Bool) (touched : ℕ) → entry.value ≡ [] →
-      shown_of story ended touched old (left_turn l entry) r left
-      ≡ shown_of story ended touched old l r left
-  shown_looks story ended touched is = ap (λ (acts : List (LeftAct S)). shown_of story ended touched
-      old (left_acts l acts) r left) is
-
   -- units were put
   pub shown_puts : (story new_story : Story) (ended : Bool) (touched now : ℕ) (us : List (AUnit S))
       (held : ℕ) → new ≡ record old { ready = old.ready ++ us } → entry.value ≡ Put us held ∷ [] →
@@ -97,60 +90,6 @@ module _ {A R S : Type 0} (old new : State A R S) (entry : LeftEntry S) (l : Lef
       (ap (λ (s : State A R S). shown_of new_story ended now s
       (left_by (left_by l (Killed over.SpillFault)) Buried) r left) e)
 
-  -- bytes were taken
-  pub shown_drains : (story : Story) (ended : Bool) (touched now : ℕ) (before after : Buffered S)
-      (bytes : List ℕ) → old.output ≡ Some before → length after.bytes
-      ≡ length before.bytes - length bytes → 0 < length bytes → length bytes ≤ length before.bytes →
-      new ≡ record old { output = Some after } → entry.value ≡ Drained bytes ∷ [] →
-      Shortens now (shown_of story ended touched old l r left)
-      (shown_of story ended now new (left_turn l entry) r left)
-      × (length_of new.output + length bytes ≤ length_of old.output)
-  shown_drains story ended touched now before after bytes had size some within e is =
-      subst (λ (acts : List (LeftAct S)). Shortens now (shown_of story ended touched old l r left)
-      (shown_of story ended now new (left_acts l acts) r left)
-      × (length_of new.output + length bytes ≤ length_of old.output)) (sym is)
-      (subst (λ (s : State A R S). Shortens now (shown_of story ended touched old l r left)
-      (shown_of story ended now s (left_by l (Drained bytes)) r left)
-      × (length_of s.output + length bytes ≤ length_of old.output)) (sym e)
-      (let was : length_of old.output ≡ length before.bytes = ap length_of had in (
-        record { less = omega (arith, was, size, some, within); shown = refl },
-        omega (arith, was, size, within),
-      )))
-
-  -- the output's spill was asked, and nothing was done
-  pub shown_touches : (story : Story) (ended : Bool) (touched : ℕ) (before after : Buffered S) →
-      old.output ≡ Some before → length after.bytes ≡ length before.bytes →
-      new ≡ record old { output = Some after } → entry.value ≡ [] →
-      shown_of story ended touched new (left_turn l entry) r left
-      ≡ shown_of story ended touched old l r left
-  shown_touches story ended touched before after had size e is =
-      ap (λ (acts : List (LeftAct S)). shown_of story ended touched new (left_acts l acts) r left)
-      is
-      ∙ (ap (λ (s : State A R S). shown_of story ended touched s l r left) e
-      ∙ ap (λ n. record (shown_of story ended touched old l r left) { output = n }) (size
-      ∙ sym (ap length_of had)))
-
--- what broke was taken out
-pub shown_buries : {A R S : Type 0} (old new : State A R S) (entry : LeftEntry S) (l : LeftPast S)
-    (r : RightPast S) (left : ℕ) (story : Story) (ended : Bool) (touched : ℕ) (w : Bool) →
-    new ≡ record old { fallen = None; output = (if w then None else old.output) } →
-    entry.value ≡ Buried ∷ [] →
-    (length_of new.output ≤ length_of old.output)
-    × (shown_of story ended touched new (left_turn l entry) r left
-    ≡ record (shown_of story ended touched old l r left) { output = length_of new.output })
-shown_buries {A} {R} {S} old new entry l r left story ended touched w e is = (
-  subst (λ (s : State A R S). length_of s.output ≤ length_of old.output) (sym e)
-      (less w old.output),
-  ap (λ (acts : List (LeftAct S)). shown_of story ended touched new (left_acts l acts) r left) is
-      ∙ subst (λ (s : State A R S). shown_of story ended touched s (left_by l Buried) r left
-      ≡ record (shown_of story ended touched old l r left) { output = length_of s.output })
-      (sym e) refl,
-)
-  where
-    less : (w : Bool) (o : Option (Buffered S)) → length_of (if w then None else o) ≤ length_of o
-    less true o = omega arith
-    less false o = omega arith
-
 -- it was asked, as the channel was to be asked
 pub asked_so : (ask : Bool) (m : Moved) (dead : Option End) → IfAsked true m None → dead ≡ None →
     ask ≡ true → IfAsked ask m dead
@@ -161,22 +100,6 @@ asked_so ask m dead p d a = subst (λ (o : Option End). IfAsked ask m o) (sym d)
 pub turn_then : {S : Type 0} (l : LeftPast S) (e f both : LeftEntry S) →
     both.value ≡ e.value ++ f.value → left_turn l both ≡ left_turn (left_turn l e) f
 turn_then l e f both is = ap (left_acts l) is ∙ fold-append left_by l e.value f.value
-
-pub concludes_same : (v w : View) → w ≡ v → Concludes v w
-concludes_same v w e = subst (λ (x : View). Concludes v x) (sym e) (record {
-  less = omega arith;
-  same = refl;
-  alive = λ d. refl;
-})
-
--- a channel that isn't dead was not silent
-pub alive_by : (a b : Bool) → (a || b) ≡ false → (a ≡ false) × (b ≡ false)
-alive_by true b e = cc
-alive_by false b e = (refl, e)
-
-pub not_true : (b : Bool) → not b ≡ false → b ≡ true
-not_true true e = refl
-not_true false e = cc
 
 pub none_of : {X : Type 0} (o : Option X) → is_some o ≡ false → o ≡ None
 none_of None e = refl

@@ -108,26 +108,6 @@ coded_goes_on mb mt bytes content e = either (has_ended (reads (fresh mb mt) byt
     (reads (fresh mb mt) bytes).taken (decodes (fresh mb mt) bytes) h)))
     (λ h. h)
 
-going_lasts : (p : Place) → has_ended p ≡ false → lasting_at p ≡ None
-going_lasts LineStart e = refl
-going_lasts (Digits i k) e = refl
-going_lasts (Blanks i k) e = refl
-going_lasts (Extension i k) e = refl
-going_lasts (LineCr i k) e = refl
-going_lasts (Data left) e = refl
-going_lasts DataEnd e = refl
-going_lasts DataCr e = refl
-going_lasts (Trailer i m) e = refl
-going_lasts Over e = let no : true ≡ false = e in cc
-going_lasts (Refused r) e = let no : true ≡ false = e in cc
-
--- a reader of a part of a body has settled nothing
-pub coded-going : (mb mt : ℕ) (reading : Reading) (bytes content : List ℕ) →
-    Reads mb mt reading bytes content → coded mb mt bytes ≡ partial content → lasting reading ≡ None
-unfolding lasting
-coded-going mb mt reading bytes content r e = going_lasts reading.place
-    (ap (λ (k : Reading). has_ended k.place) r.state ∙ coded_goes_on mb mt bytes content e)
-
 -- bytes behind an end change nothing
 record Stays (mb mt : ℕ) (bytes more : List ℕ) : Type 0 where
   state : reads (fresh mb mt) (bytes ++ more) ≡ reads (fresh mb mt) bytes

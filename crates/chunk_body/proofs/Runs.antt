@@ -230,9 +230,6 @@ pub nothing_decoded : (s : Reading) → [] ≡ decodes s []
 unfolding decodes
 nothing_decoded s = refl
 
-pub over_ended : (p : Place) → p ≡ Over → has_ended p ≡ true
-over_ended p e = ap has_ended e
-
 pub refused_ended : (p : Place) (r : Refusal) → p ≡ Refused r → has_ended p ≡ true
 refused_ended p r e = ap has_ended e
 

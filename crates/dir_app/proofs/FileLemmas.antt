@@ -88,39 +88,6 @@ found_step at size (Some bytes) piece told some within read counted =
     ∙ (ap (λ (xs : List ℕ). Piece xs ∷ pieces (drop 32768 (drop at bytes))) here ∙
     ap (λ (xs : List ℕ). Piece piece ∷ pieces xs) behind)
 
--- the size that was found is that of the content
-pub size_told : (file : Option (List ℕ)) (size : ℕ) → IsSomeAnd file
-    (λ bytes. size ≡ length bytes) → option_map length file ≡ Some size
-size_told None size told = absurd told
-size_told (Some bytes) size told = ap Some (sym told)
-
-body_is : (bodyless : Bool) (bytes : List ℕ) (size at : ℕ) → length bytes ≡ size →
-    at ≡ cond bodyless size 0 →
-    cond bodyless [] (pieces bytes) ≡ pieces (drop at bytes)
-body_is true bytes size at same place = sym (ap pieces (drop_all at bytes (omega arith)))
-body_is false bytes size at same place = ap (λ n. pieces (drop n bytes)) (sym place)
-
--- the head of a file that was found, and its content, which a HEAD doesn't get
-pub look_found : (bodyless : Bool) (media : List ℕ) (file : Option (List ℕ)) (size at : ℕ) →
-    option_map length file ≡ Some size →
-    size < 2 ^ 64 → at ≡ cond bodyless size 0 →
-    file_script bodyless media (sizable file) ≡ file_start media size ∷ pieces
-    (drop at (unwrap_or file []))
-look_found bodyless media None size at told fits place = absurd (none-some size told)
-look_found bodyless media (Some bytes) size at told fits place =
-    let same : length bytes ≡ size = same_Some (length bytes) size told in
-    let small : nat_lt (length bytes) (2 ^ 64) ≡ true = lt-ltb (length bytes) (2 ^ 64) (omega arith)
-    in
-    ap (λ (t : Bool). file_script bodyless media (cond t (Some bytes) None)) small
-    ∙ (ap (λ (n : ℕ). file_start media n ∷ cond bodyless [] (pieces bytes)) same
-    ∙ ap (λ (steps : List Step). file_start media size ∷ steps)
-    (body_is bodyless bytes size at same place))
-
-pub look_missing : (bodyless : Bool) (media : List ℕ) (file : Option (List ℕ)) → file ≡ None →
-    file_script bodyless media (sizable file) ≡ not_found
-look_missing bodyless media file none = ap (λ (f : Option (List ℕ)).
-    file_script bodyless media (sizable f)) none
-
 pub found_within : (progress : Progress) (at size : ℕ) → progress ≡ Found at size →
     ForSome (size_of progress) (λ size. place_of progress ≤ size) → at ≤ size
 found_within progress at size found within =

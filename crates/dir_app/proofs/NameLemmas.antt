@@ -28,15 +28,6 @@ step : (part : List ℕ) (more : List (List ℕ)) → 0 < length more →
 step part [] some = absurd (omega arith)
 step part (next ∷ rest) some = refl
 
--- a name in front leaves the rest to be seen
-pub name_goes_on : (whole : List (List ℕ)) (part : List ℕ) (more : List (List ℕ)) →
-    whole ≡ part ∷ more → 0 < length more →
-    0 < length part → is_name part ≡ true → are_names whole ≡ are_names more
-name_goes_on whole part more cut some full name =
-    ap are_names cut ∙ (step part more some
-    ∙ (ap (λ t. t && is_name part && are_names more) (lt-ltb 0 (length part) full) ∙
-    ap (λ t. true && t && are_names more) name))
-
 pub empty_part_ends : (whole : List (List ℕ)) (part : List ℕ) (more : List (List ℕ)) →
     whole ≡ part ∷ more → 0 < length more →
     length part ≡ 0 → are_names whole ≡ false
@@ -46,18 +37,6 @@ empty_part_ends whole (b ∷ bs) more cut some none = absurd (omega arith)
 by_test : (t u : Bool) → (t && false && u) ≡ false
 by_test true u = refl
 by_test false u = refl
-
-pub bad_part_ends : (whole : List (List ℕ)) (part : List ℕ) (more : List (List ℕ)) →
-    whole ≡ part ∷ more → 0 < length more →
-    is_name part ≡ false → are_names whole ≡ false
-bad_part_ends whole part more cut some bad =
-    ap are_names cut ∙ (step part more some
-    ∙ (ap (λ t. nat_lt 0 (length part) && t && are_names more) bad ∙
-    by_test (nat_lt 0 (length part)) (are_names more)))
-
-pub last_part_is : (whole : List (List ℕ)) (part : List ℕ) → whole ≡ part ∷ [] →
-    are_names whole ≡ is_name part
-last_part_is whole part cut = ap are_names cut
 
 pub is_text : (bytes : List ℕ) → IsUtf8 bytes → is_utf8 bytes ≡ true
 is_text bytes valid = is_utf8-from_IsUtf8 bytes valid

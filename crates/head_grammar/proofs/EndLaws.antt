@@ -148,10 +148,6 @@ none_by xs k (Some m) e h =
     ∙ head_end-still (take k xs) (drop k xs) m e in
     let wrong : Some m ≡ None = sym still ∙ h in cc
 
--- no head ends in a front of bytes in which none ends
-pub head_end-front : (xs : List ℕ) (k : ℕ) → head_end xs ≡ None → head_end (take k xs) ≡ None
-head_end-front xs k h = none_by xs k (head_end (take k xs)) refl h
-
 moved_none : (k : ℕ) (r : Option ℕ) → r ≡ None → r ≡ option_map (λ n. k + n) r
 moved_none k None e = refl
 moved_none k (Some n) e = cc

@@ -31,8 +31,3 @@ judged : (max_body : ℕ) (lines : List (List ℕ)) (size : ℕ) →
     HasSize size (verdict_of max_body lines size)
 judged max_body [] size = tt
 judged max_body (line ∷ rest) size = lined max_body rest size (request_line line)
-
--- a served head has all the bytes
-pub verdict-size : (max_body : ℕ) (head : List ℕ) → HasSize (length head) (verdict max_body head)
-unfolding verdict
-verdict-size max_body head = judged max_body (head_lines head) (length head)

@@ -134,29 +134,6 @@ module _ {L P : Type 0} (service : Service) (grounds : Grounds) where
   }
 
 module _ {L P : Type 0} (service : Service) (broke : Type 0) where
-  end_shut : (net : NetState L P) (link : LinkState) (count : ℕ) (owed : Owed) (end : End) →
-      EndHolds service (going_on broke) net link count owed end →
-      EndHolds service (shutting_down broke) net link count owed end
-  end_shut net link count owed over.Done h = h
-  end_shut net link count owed over.LinkFault h = h
-  end_shut net link count owed over.SpillFault h = h
-  end_shut net link count owed over.AppFault h = h
-  end_shut net link count owed over.NoMemory h = h
-  end_shut net link count owed (over.TimedOut touched now) h = h
-  end_shut net link count owed over.ShutDown h = tt
-
-  -- what holds while serving goes on holds as well where it ends
-  pub entry_holds_shut : (state : L → LinkState) (faults : L → ℕ) (net : NetState L P)
-      (entry : Retired L) →
-      EntryHolds service (going_on broke) state faults net entry →
-      EntryHolds service (shutting_down broke) state faults net entry
-  entry_holds_shut state faults net entry h = record {
-    prefix = h.prefix;
-    timely = h.timely;
-    cause = end_shut net (state entry.link) (faults entry.link)
-        (service.owed entry.peer (state entry.link).arrivals) entry.end h.cause;
-  }
-
 -- ---- counts
 
 pub spill_faults_append : {L : Type 0} (xs ys : List (Retired L)) →

@@ -195,52 +195,6 @@ module _ {L P : Type 0} (Holds : NetState L P → Retired L → Type 0) (plan : 
           (sym (ap (λ n. length n.given) told.state)) (more_none limit accepted (length old.given));
     }
 
-    ends_polled : (result : Option Why) (x y f g : ℕ) (who who' : List (Peer × P))
-        (last : NetState L P) → turn.stop ≡ false →
-        StepEnds result limit accepted (books new x f who) (books last y g who') →
-        StepEnds result limit accepted (books old x f who) (books last y g who')
-    ends_polled None x y f g who who' last going h = h
-    ends_polled (Some why.Stopped) x y f g who who' last going h = record {
-      stopped = h.stopped;
-      polled = let p = ap (λ n. n.polls) told.state in let r = h.polled in let m =
-          raised_more (raised old.polls) in grind (arith, p, r, m);
-      poll = h.poll;
-      last = h.last;
-      told = h.told;
-      given = h.given;
-      empty = λ q. h.empty (ap (λ n. n.quiet) told.state ∙ q);
-    }
-    ends_polled (Some why.LimitMet) x y f g who who' last going h = (
-      record {
-        count = h.0.count;
-        limited = h.0.limited;
-        met = let m = h.0.met in let e =
-            ap (λ n. length n.given) told.state in omega (arith, m, e);
-      },
-      h.1,
-      h.2,
-    )
-    ends_polled (Some (why.Failed fault)) x y f g who who' last going h =
-        λ s. absurd (let t = h s in let e = ap (λ n. n.stopped) told.state ∙ going in cc)
-
-    -- a turn behind a poll that did not tell to stop
-    pub steps_carried : (later : (old new : NetState L P) → TimeGoesOn old new →
-        (entry : Retired L) → Holds old entry → Holds new entry) (result : Option Why)
-        (now x y f g : ℕ) (who who' : List (Peer × P))
-        (last : NetState L P) → turn.stop ≡ false →
-        Steps result Holds plan limit accepted now (books new x f who) (books last y g who') →
-        Steps result Holds plan limit accepted now (books old x f who) (books last y g who')
-    steps_carried later result now x y f g who who' last going s = record {
-      accounts = accounts_trans Holds plan later _ _ _ (accounts_polled x f who) s.accounts;
-      knows = record {
-        still = λ _. s.knows.still (knows_polled wants accepting turn old new told);
-        either = inr (s.knows.still (knows_polled wants accepting turn old new told));
-      };
-      ends = ends_polled result x y f g who who' last going s.ends;
-      came_more = subst (λ n. CameMore limit accepted now n (length last.given))
-          (ap (λ n. length n.given) told.state) s.came_more;
-    }
-
 -- the connections stay hosted
 pub hosts_polled : {L P A S R : Type 0} (e : Eyes L P) (old new : NetState L P)
     (seats : List (Seat L A S P R)) → new.live ≡ old.live → TimeGoesOn old new →

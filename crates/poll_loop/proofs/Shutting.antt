@@ -184,13 +184,6 @@ module _ {L P A S R : Type 0} (tells : Bool) (e : Eyes L P)
       shuts = λ _. shuts_none Holds e.plan old;
     }
 
-    pub shut_all : (left : List (Seat L A S P R)) (new : NetState L P) →
-        Shuts tells e Holds olds left old new → left ≡ [] → IsTrue tells →
-        ShutsDown (Holds new) e.plan (seated e olds) old new
-    shut_all left new s none t =
-        subst (λ xs. ShutsDown (Holds new) e.plan (seated e xs) old new)
-        (sym (s.were ∙ (ap (λ r. s.looked ++ r) none ∙ append-nil s.looked))) (s.shuts t)
-
     module _ (nows rest : List (Seat L A S P R)) (seat : Seat L A S P R) (new : NetState L P)
         (s : Shuts tells e Holds olds nows old new) (is : nows ≡ seat ∷ rest) where
       were_next : olds ≡ s.looked ++ seat ∷ rest

@@ -40,19 +40,6 @@ module _ (known : Grammar) where
         ∙ sym (goes_on state g);
   }
 
--- nothing is read of nothing
-pub reads_none : {S : Type 0} (tells : Bool) (limits : Limits) (state : State S) (now : ℕ)
-    (piece : List ℕ) (us : List Asked) → Reads tells limits state state
-    (stamped now (take 0 piece)) us us
-reads_none tells limits state now piece us = record {
-  each = λ known x r. record {
-    read = subst (HasRead tells limits state) (sym (append-nil x)) r;
-    given = asked_is us (us ++ later limits x []) (sym (append-nil us)
-        ∙ ap (λ ws. us ++ ws) (sym (later_of limits x [] (units limits x) [] refl
-        (ap (units limits) (append-nil x) ∙ sym (append-nil (units limits x))))));
-  };
-}
-
 -- one step further into the piece
 pub reads_more : {S : Type 0} (tells : Bool) (limits : Limits) (old mid new : State S) (now i j : ℕ)
     (piece : List ℕ) (us vs ws : List Asked) → 0 < limits.max_head → i ≤ length piece →
@@ -69,10 +56,3 @@ reads_more tells limits old mid new now i j piece us vs ws h within a b =
     subst (λ p. Reads tells limits old new p us ws) parts
     (reads-trans tells limits old mid new (stamped now (take i piece))
     (stamped now (take j (take (length piece - i) (drop i piece)))) us vs ws h a b)
-
-pub reads_end : {S : Type 0} (tells : Bool) (limits : Limits) (old new : State S) (now i : ℕ)
-    (piece : List ℕ) (us vs : List Asked) → length piece ≤ i →
-    Reads tells limits old new (stamped now (take i piece)) us vs →
-    Reads tells limits old new (stamped now piece) us vs
-reads_end tells limits old new now i piece us vs h r =
-    subst (λ p. Reads tells limits old new (stamped now p) us vs) (take_all i piece h) r

@@ -14,10 +14,6 @@ use Rattle.request_stream.specs.declared.state.Step.{Step}
 use Rattle.request_stream.specs.declared.types.Limits.{Limits}
 use Rattle.request_stream.proofs.HeadMoves.{reads_seek}
 
-pub none_before : (bytes : List ℕ) (before w : ℕ) → head_end (take before bytes) ≡ None →
-    before ≤ w → head_end (take before (take w bytes)) ≡ None
-none_before bytes before w h high = ap head_end (take-take before w bytes high) ∙ h
-
 -- the first n bytes of what is held and of the piece
 pub cut_is : (items held piece : List ℕ) (t n before : ℕ) → items ≡ held ++ take t piece →
     before ≡ length held → before < n → n ≤ length items →

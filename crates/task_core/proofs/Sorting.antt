@@ -43,9 +43,6 @@ abbrev Ascends : {X : Type 0} → (X → X → Bool) → List X → Type 0
 Ascends lt [] = Unit {0}
 Ascends lt (x ∷ xs) = NoneBelow lt x xs × Ascends lt xs
 
-not_both : {P : Type 0} (b : Bool) → b ≡ true → b ≡ false → P
-not_both b h k = let no : true ≡ false = sym h ∙ k in absurd (cc)
-
 module _ {X : Type 0} (lt : X → X → Bool) (o : IsStrictWeakOrder lt) where
   not_itself_by : (x : X) (b : Bool) → lt x x ≡ b → lt x x ≡ false
   not_itself_by x true h = o.one_way x x h

@@ -33,18 +33,3 @@ module _ (P S L R F : RattleType) (g : Ghosts P.Denot S.Denot L.Denot R.Denot F.
     shelf_send,
     sendable,
   ) depth 40
-
-  pub right_send : IsSend (Right.the_row P S L R F g)
-  right_send = search (
-    crosses,
-    shared_send,
-    shared_sync,
-    seat_send,
-    lease_send,
-    lease_sync,
-    shelf_send,
-    sendable,
-  ) depth 40
-
-  pub turn_send : IsSend (Turn.the_row P S L R F g)
-  turn_send = search (crosses, sendable) depth 40
