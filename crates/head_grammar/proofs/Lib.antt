@@ -1,6 +1,11 @@
 pub mod EndLaws
 pub mod VerdictLaws
 mod EndSearch
+mod MoreFields
+mod LineParts
+mod LowerCase
+mod Rests
+mod Walks
 mod Digits
 mod Firsts
 mod ListEnds

@@ -8,12 +8,9 @@ use Rattle.std.specs.List.{onto_first}
 use Rattle.std.proofs.lemmas.Bool.Decides.{nat_tests}
 use Rattle.memchr.specs.Find.{OccursAt, FindsNeedle}
 use Rattle.memchr.proofs.lemmas.MatchLemmas.{OccursAt-part, OccursAt-from_part}
-use Rattle.head_grammar.specs.Lines.{lines, skip_empty}
+use Rattle.head_grammar.specs.Lines.{line_mark, lines, skip_empty}
 use Rattle.byte_tables.proofs.Cuts.{rest_is}
 use Rattle.head_grammar.proofs.Occurs.{finds_none, finds_some}
-
-abbrev line_mark : List ℕ
-line_mark = 13 ∷ 10 ∷ []
 
 -- the lines of a text whose first line ends at a place, or nowhere
 abbrev LinesBy : List ℕ → Option ℕ → Type 0

@@ -1,6 +1,6 @@
 -- Whether names differ, as a set of those so far tells it.
-use Rattle.std.proofs.Common.{◌≡◌, ◌+◌, ◌<◌, ℕ, Bool, true, false, List, [], ◌∷◌, ◌++◌, length}
-use Rattle.std.proofs.Common.{take, drop, get_or, refl, ap, sym, ◌∙◌, Bor}
+use Rattle.std.proofs.Common.{◌≡◌, ◌+◌, ◌-◌, ◌<◌, ℕ, suc, Bool, true, false, List, [], ◌∷◌, ◌++◌}
+use Rattle.std.proofs.Common.{length, take, drop, get_or, refl, ap, sym, ◌∙◌, Bor, arith}
 use Rattle.std.specs.Prelude.{not, ◌&&◌, ◌||◌}
 use Rattle.std.specs.List.{list_any}
 use Rattle.std.specs.Str.{bytes_eq}
@@ -11,12 +11,13 @@ use Rattle.std.specs.BTreeSet.{insert_key}
 use Rattle.std.specs.declared.cmp.Ordering.{Ordering}
 use Rattle.std.specs.declared.cmp.Ordering.TheVariants.{Less, Equal, Greater}
 use Rattle.std.proofs.lemmas.List.Folds.{list_any-append}
-use Rattle.std.proofs.lemmas.List.{take_more, take-append-drop}
+use Rattle.std.proofs.lemmas.List.{take_more, take-append-drop, take_all, length-drop}
 use Rattle.std.proofs.lemmas.Map.Lookups.{exact_bytes}
 use Rattle.std.proofs.lemmas.Map.Text.{is_eq-slice_cmp}
 use Rattle.std.proofs.lemmas.Slice.Eq.{bytes_eq-Decides}
 use Rattle.head_grammar.specs.declared.types.Field.{Field}
 use Rattle.head_grammar.specs.FieldLines.{has_name, names_differ}
+use Rattle.head_grammar.proofs.Walks.{place_of_rest}
 
 abbrev pub have_name : List ℕ → List Field → Bool
 have_name name fields = list_any (λ field. has_name name field) fields
@@ -164,3 +165,74 @@ pub differ_whole : (fields : List Field) (n : ℕ) → names_differ (take n fiel
     names_differ fields ≡ false
 differ_whole fields n h = ap names_differ (sym (take-append-drop n fields))
     ∙ differ_front (take n fields) (drop n fields) h
+
+-- a walk over all fields has those from a place on left, and comes to the place behind it
+at_place : (fields s t : List Field) (f : Field) → s ≡ drop (length fields - length s) fields →
+    s ≡ f ∷ t →
+    ((length fields - length s < length fields) × (f ≡ get_or fields (length fields - length s) f))
+    × ((t ≡ drop (suc (length fields - length s)) fields)
+    × (length fields - length s + 1 ≡ length fields - length t))
+at_place fields s t f left step =
+    let place = place_of_rest fields (length fields - length s) f t (sym step ∙ left) in
+    let within = place.0 in
+    let size = ap length step in
+    let whole = ap length left ∙ length-drop (length fields - length s) fields in
+    ((within, place.1.0), (place.1.1, omega arith))
+
+pub walk_left : (fields s t : List Field) (f : Field) →
+    s ≡ drop (length fields - length s) fields → s ≡ f ∷ t →
+    t ≡ drop (length fields - length t) fields
+walk_left fields s t f left step =
+    let place = at_place fields s t f left step in
+    let next = place.1.1 in
+    let more : suc (length fields - length s) ≡ length fields - length t = omega arith in
+    place.1.0 ∙ ap (λ n. drop n fields) more
+
+pub walk_known : (fields s t : List Field) (f : Field) (key : Bor (List ℕ))
+    (ks new : List (Bor (List ℕ))) →
+    s ≡ drop (length fields - length s) fields → s ≡ f ∷ t → key.now ≡ f.name →
+    new ≡ insert_key (λ x y. slice_cmp nat_cmp x.now y.now) ks key →
+    ((q : List ℕ) → list_any (λ k. bytes_eq q k.now) ks
+    ≡ have_name q (take (length fields - length s) fields)) →
+    (q : List ℕ) → list_any (λ k. bytes_eq q k.now) new
+    ≡ have_name q (take (length fields - length t) fields)
+walk_known fields s t f key ks new left step name_is new_is known q =
+    let place = at_place fields s t f left step in
+    known_more fields (length fields - length s) f key ks new place.0.0 place.0.1 name_is new_is
+    known q ∙ ap (λ n. have_name q (take n fields)) place.1.1
+
+pub walk_differ : (fields s t : List Field) (f : Field) (key : Bor (List ℕ))
+    (ks : List (Bor (List ℕ))) (new : Bool) →
+    s ≡ drop (length fields - length s) fields → s ≡ f ∷ t → key.now ≡ f.name →
+    new ≡ not (list_any (λ k. is_eq (slice_cmp nat_cmp key.now k.now)) ks) →
+    ((q : List ℕ) → list_any (λ k. bytes_eq q k.now) ks
+    ≡ have_name q (take (length fields - length s) fields)) →
+    names_differ (take (length fields - length s) fields) ≡ true →
+    names_differ (take (length fields - length t) fields) ≡ new
+walk_differ fields s t f key ks new left step name_is new_is known differ =
+    let place = at_place fields s t f left step in
+    ap (λ n. names_differ (take n fields)) (sym place.1.1) ∙
+    differ_more fields (length fields - length s) f key ks new place.0.0 place.0.1 name_is new_is
+    known differ
+
+start_is : (fields s : List Field) → s ≡ fields → 0 ≡ length fields - length s
+start_is fields s e = let size = ap length e in omega arith
+
+pub start_left : (fields s : List Field) → s ≡ fields → s ≡ drop (length fields - length s) fields
+start_left fields s e = e ∙ ap (λ n. drop n fields) (start_is fields s e)
+
+pub start_known : (fields s : List Field) (keys : List (Bor (List ℕ))) (q : List ℕ) → s ≡ fields →
+    keys ≡ [] → list_any (λ k. bytes_eq q k.now) keys
+    ≡ have_name q (take (length fields - length s) fields)
+start_known fields s keys q e none = ap (list_any (λ k. bytes_eq q k.now)) none
+    ∙ ap (λ n. have_name q (take n fields)) (start_is fields s e)
+
+pub start_differ : (fields s : List Field) → s ≡ fields →
+    names_differ (take (length fields - length s) fields) ≡ true
+start_differ fields s e = ap (λ n. names_differ (take n fields)) (sym (start_is fields s e))
+
+pub end_differ : (fields s : List Field) → s ≡ [] →
+    names_differ (take (length fields - length s) fields) ≡ true → true ≡ names_differ fields
+end_differ fields s e differ =
+    let size = ap length e in
+    sym differ ∙ ap names_differ (take_all (length fields - length s) fields (omega arith))

@@ -9,7 +9,7 @@ use Rattle.head_grammar.specs.RequestLines.{request_line}
 use Rattle.head_grammar.specs.Verdict.{HasSize, by_framing, by_fields, by_line, verdict_of, verdict}
 use Rattle.head_grammar.specs.declared.types.Field.{Field}
 use Rattle.head_grammar.specs.declared.types.Framing.{Framing}
-use Rattle.head_grammar.specs.declared.request_line.RequestLine.{RequestLine}
+use Rattle.head_grammar.specs.Heads.{RequestLine}
 
 framed : (line : RequestLine) (fields : List Field) (size : ℕ) (r : Result Framing Refusal) →
     HasSize size (by_framing line fields size r)

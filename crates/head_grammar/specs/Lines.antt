@@ -2,6 +2,10 @@
 use Rattle.std.specs.Prelude.{ℕ, List, [], ◌∷◌, ◌&&◌, ◌==◌, ◌-◌, take, length, if◌then◌else◌}
 use Rattle.std.specs.List.{onto_first}
 
+-- CR LF, the end of a line
+abbrev pub line_mark : List ℕ
+line_mark = 13 ∷ 10 ∷ []
+
 -- the lines of a text: CR LF ends each of them, and the last one may stand without
 unfoldable pub lines : List ℕ → List (List ℕ)
 lines [] = []

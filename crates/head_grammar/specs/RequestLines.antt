@@ -9,7 +9,7 @@ use Rattle.byte_tables.specs.declared.refusal.Refusal.TheVariants as refusal
 use Rattle.head_grammar.specs.Targets.{path_of, query_of}
 use Rattle.head_grammar.specs.declared.types.Version.{Version}
 use Rattle.head_grammar.specs.declared.types.Version.TheVariants.{Old, New}
-use Rattle.head_grammar.specs.declared.request_line.RequestLine.{RequestLine}
+use Rattle.head_grammar.specs.Heads.{RequestLine}
 
 -- the parts of a request line, cut at each SP
 abbrev pub parts : List ℕ → List (List ℕ)

@@ -11,7 +11,7 @@ use Rattle.head_grammar.specs.declared.types.Framing.{Framing}
 use Rattle.head_grammar.specs.declared.types.Version.TheVariants.{Old}
 use Rattle.head_grammar.specs.declared.types.Parsed.{Parsed}
 use Rattle.head_grammar.specs.declared.types.Parsed.TheVariants.{Blank, Good, Bad}
-use Rattle.head_grammar.specs.declared.request_line.RequestLine.{RequestLine}
+use Rattle.head_grammar.specs.Heads.{RequestLine}
 
 -- A response to HEAD has no body (RFC 9110, section 9.3.2).
 abbrev pub is_head : List ℕ → Bool

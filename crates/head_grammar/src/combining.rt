@@ -3,31 +3,47 @@ ghost use Rattle.std.specs.Prelude.{◌≡◌, IfOk, OnOk};
 ghost use Rattle.head_grammar.specs.Combining.{ArePlaces, added, with_value};
 ghost use Rattle.head_grammar.specs.FieldLines as spec;
 
-use crate::Field;
-use outside::{Bytes, Items};
+use crate::{Field, FieldList, Fields};
+use outside::Bytes;
 use std::alloc::{AllocError, Global};
 use std::collections::{BTreeMap, BTreeSet};
 use std::mem;
 
-fn names_differ(alloc: Global, fields: &[Field]) -> Result<bool, AllocError>
+/// Up to how many names are compared each with each.
+const FEW: usize = 24;
+
+fn few_names_differ(fields: &Fields<'_>) -> bool
+    ensures { result ≡ spec.names_differ fields.now }
+{
+    let mut rest = fields.iter();
+    while let Some((name, _)) = rest.next() {
+        if rest.has(name) {
+            return false;
+        }
+    }
+    true
+}
+
+// Whatever the names are, a set of them is searched by their order.
+fn many_names_differ(alloc: Global, fields: &Fields<'_>) -> Result<bool, AllocError>
     ensures { IfOk result (λ differ. differ ≡ spec.names_differ fields.now) }
 {
     let mut names = BTreeSet::new(alloc);
-    for field in fields {
-        if !names.insert(field.name.as_slice())? {
+    for (name, _) in fields.iter() {
+        if !names.insert(name)? {
             return Ok(false);
         }
     }
     Ok(true)
 }
 
-fn copied(alloc: Global, field: &Field) -> Result<Field, AllocError>
-    ensures { IfOk result (λ copy. copy ≡ field.now) }
+fn names_differ(alloc: Global, fields: &Fields<'_>) -> Result<bool, AllocError>
+    ensures { IfOk result (λ differ. differ ≡ spec.names_differ fields.now) }
 {
-    Ok(Field {
-        name: Bytes::from_slice(alloc, field.name.as_slice())?,
-        value: Bytes::from_slice(alloc, field.value.as_slice())?,
-    })
+    if fields.len() <= FEW {
+        return Ok(few_names_differ(fields));
+    }
+    many_names_differ(alloc, fields)
 }
 
 // Puts a further value behind the field's own, which is not copied.
@@ -42,45 +58,57 @@ fn add_value(alloc: Global, field: &mut Field, more: &[u8]) -> Result<(), AllocE
     Ok(())
 }
 
+fn copied(alloc: Global, name: &[u8], value: &[u8]) -> Result<Field, AllocError>
+    ensures { IfOk result (λ copy. copy ≡ record { name = name.now; value = value.now }) }
+{
+    Ok(Field {
+        name: Bytes::from_slice(alloc, name)?,
+        value: Bytes::from_slice(alloc, value)?,
+    })
+}
+
 fn add_field<'a>(
     alloc: Global,
     places: &mut BTreeMap<&'a [u8], usize>,
     fields: &mut Vec<Field>,
-    field: &'a Field,
+    name: &'a [u8],
+    value: &[u8],
 ) -> Result<(), AllocError>
     requires { ArePlaces places.old fields.old.items }
     ensures places { OnOk result (ArePlaces places.new fields.new.items) }
-    ensures fields { OnOk result (fields.new.items ≡ added fields.old.items field.now) }
+    ensures fields { OnOk result (fields.new.items
+        ≡ added fields.old.items (record { name = name.now; value = value.now })) }
 {
-    let name = field.name.as_slice();
     match places.get(name) {
-        Some(place) => add_value(alloc, &mut fields[*place], field.value.as_slice()),
+        Some(place) => add_value(alloc, &mut fields[*place], value),
         None => {
             places.insert(name, fields.len())?;
-            fields.push(copied(alloc, field)?)?;
+            fields.push(copied(alloc, name, value)?)?;
             Ok(())
         }
     }
 }
 
 // For fields of which some have equal names.
-fn combined_copies(alloc: Global, fields: &[Field]) -> Result<Items<Field>, AllocError>
-    ensures { IfOk result (λ combined. combined ≡ spec.combined fields.now) }
+fn combined_copies(alloc: Global, fields: Fields<'_>) -> Result<Vec<Field>, AllocError>
+    ensures { IfOk result (λ combined. combined.items ≡ spec.combined fields.entry) }
 {
     let mut places = BTreeMap::new(alloc);
     let mut combined = Vec::new(alloc);
-    for field in fields {
-        add_field(alloc, &mut places, &mut combined, field)?;
+    for (name, value) in fields {
+        add_field(alloc, &mut places, &mut combined, name, value)?;
     }
-    Ok(Items::from_vec(combined))
+    Ok(combined)
 }
 
 /// The fields, where a name that comes again adds its values to the first (RFC 9110, section 5.3).
-pub fn combined(alloc: Global, fields: Items<Field>) -> Result<Items<Field>, AllocError>
+pub fn combined(alloc: Global, fields: FieldList) -> Result<FieldList, AllocError>
     ensures { IfOk result (λ combined. combined ≡ spec.combined fields) }
 {
-    if names_differ(alloc, fields.as_slice())? {
+    let lent = fields.fields();
+    if names_differ(alloc, &lent)? {
         return Ok(fields);
     }
-    combined_copies(alloc, fields.as_slice())
+    let copies = combined_copies(alloc, fields.fields())?;
+    FieldList::of(alloc, copies.as_slice())
 }

@@ -1,74 +1,52 @@
-//! What the field lines of a head say, each by itself.
-ghost use Rattle.std.specs.Prelude.{◌≡◌, [], ◌∷◌, ◌++◌, ◌≤◌, length, IfOk, OnOk};
+//! What the field lines of a head say.
+ghost use Rattle.std.specs.Prelude.{◌≡◌, [], ◌∷◌, ◌++◌, IfOk, OnOk};
 ghost use Rattle.head_grammar.specs.FieldLines as spec;
 
-use crate::classes::trim_front;
-use crate::field_line::read_field;
+use crate::combining::combined;
+use crate::field_line::{SentField, is_kept, read_field};
 use crate::lines::Lines;
-use crate::{Field, Refusal};
-use outside::Items;
+use crate::whole_line::whole_line;
+use crate::{FieldList, Refusal};
 use std::alloc::{AllocError, Global};
 
-// The line with those that continue it, each behind one SP.
-fn joined(alloc: Global, line: &[u8], lines: &mut Lines<'_>) -> Result<Vec<u8>, AllocError>
-    ensures whole { IfOk result (λ whole. spec.onto_lines (spec.first_continues lines.old) line.now
-        (spec.unfolded lines.old) ≡ whole.items ∷ spec.unfolded lines.new) }
-    ensures shorter { length lines.new ≤ length lines.old }
-{
-    let mut whole = Vec::from_slice(alloc, line)?;
-    while let Some(next) = lines.next_continued() {
-        whole.push(b' ')?;
-        whole.extend_from_slice(trim_front(next))?;
-    }
-    Ok(whole)
-}
+/// For how many fields there is room at once.
+const EXPECTED_FIELDS: usize = 16;
 
-// What the line says with those that continue it, which are taken off.
-fn read_unfolded(
-    alloc: Global,
-    line: &[u8],
-    lines: &mut Lines<'_>,
-) -> Result<Result<Field, Refusal>, AllocError>
-    ensures said { IfOk result (λ read. spec.field_lines (spec.unfolded (line.now ∷ lines.old))
-        ≡ spec.onto_fields read (spec.field_lines (spec.unfolded lines.new))) }
-    ensures shorter { length lines.new ≤ length lines.old }
+fn keep(fields: &mut FieldList, field: &SentField<'_>) -> Result<(), AllocError>
+    ensures { OnOk result (fields.new ≡ fields.old ++ spec.kept (field.now ∷ [])) }
 {
-    if !lines.next_continues() {
-        return read_field(alloc, line);
-    }
-    let whole = joined(alloc, line, lines)?;
-    read_field(alloc, whole.as_slice())
-}
-
-fn is_kept(field: &Field) -> bool
-    ensures { result ≡ spec.is_kept field.now }
-{
-    !field.name.as_slice().contains(&b'_')
-}
-
-fn keep(fields: &mut Vec<Field>, field: Field) -> Result<(), AllocError>
-    ensures { OnOk result (fields.new.items ≡ fields.old.items ++ spec.kept (field ∷ [])) }
-{
-    if is_kept(&field) {
-        fields.push(field)?;
+    if is_kept(field) {
+        fields.add_sent(field)?;
     }
     Ok(())
 }
 
-/// The fields of the lines, in order, but for those that are dropped, or the refusal of the
-/// first bad line.
-pub fn read_kept(
-    alloc: Global,
-    mut lines: Lines<'_>,
-) -> Result<Result<Items<Field>, Refusal>, AllocError>
+// The fields of the lines, in order, but for those that are dropped, or the refusal of the first
+// bad line.
+fn read_kept(alloc: Global, mut lines: Lines<'_>) -> Result<Result<FieldList, Refusal>, AllocError>
     ensures { IfOk result (λ read. read ≡ spec.kept_fields lines.entry) }
 {
-    let mut fields = Vec::new(alloc);
+    let mut fields = FieldList::with_room(alloc, EXPECTED_FIELDS, lines.size())?;
     while let Some(line) = lines.next() {
-        match read_unfolded(alloc, line, &mut lines)? {
-            Ok(field) => keep(&mut fields, field)?,
+        let line = whole_line(alloc, line, &mut lines)?;
+        match read_field(line.as_slice()) {
+            Ok(field) => keep(&mut fields, &field)?,
             Err(refusal) => return Ok(Err(refusal)),
         }
     }
-    Ok(Ok(Items::from_vec(fields)))
+    Ok(Ok(fields))
+}
+
+/// The fields of the lines, or the refusal of the first bad line.
+#[tactic(auto, unfolding(crate::specs::FieldLines::fields_of))]
+pub fn read_fields(
+    alloc: Global,
+    lines: Lines<'_>,
+) -> Result<Result<FieldList, Refusal>, AllocError>
+    ensures { IfOk result (λ read. read ≡ spec.fields_of lines.entry) }
+{
+    match read_kept(alloc, lines)? {
+        Ok(fields) => Ok(Ok(combined(alloc, fields)?)),
+        Err(refusal) => Ok(Err(refusal)),
+    }
 }

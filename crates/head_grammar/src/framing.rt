@@ -5,9 +5,8 @@ ghost use Rattle.head_grammar.specs.FieldLines.{field_value};
 ghost use Rattle.head_grammar.specs.Framings as spec;
 
 use crate::classes::trim;
-use crate::fields::value_of;
 use crate::numbers::{is_number, number_of};
-use crate::{Field, Framing, Refusal, Version};
+use crate::{Fields, Framing, Refusal, Version};
 
 // ASCII letters are compared without case.
 fn is_text(value: &[u8], text: &[u8]) -> bool
@@ -42,26 +41,26 @@ fn by_coding(version: Version, coding: &[u8]) -> Result<Framing, Refusal>
 /// How the length of a body is known (RFC 9112, section 6.3). A body has fewer than `max_body`
 /// bytes.
 #[tactic(auto, unfolding(crate::specs::Framings::framing_of))]
-pub fn framing(version: Version, fields: &[Field], max_body: u64) -> Result<Framing, Refusal>
+pub fn framing(version: Version, fields: &Fields<'_>, max_body: u64) -> Result<Framing, Refusal>
     ensures { result ≡ spec.framing_of version fields.now max_body }
 {
-    if let Some(coding) = value_of(fields, b"transfer-encoding") {
+    if let Some(coding) = fields.value_of(b"transfer-encoding") {
         return by_coding(version, coding);
     }
-    match value_of(fields, b"content-length") {
+    match fields.value_of(b"content-length") {
         Some(value) => by_length(value, max_body),
         None => Ok(Framing::Empty),
     }
 }
 
 /// Whether the client waits for `100 Continue` (RFC 9110, section 10.1.1).
-pub fn expects(version: Version, fields: &[Field], framing: Framing) -> bool
+pub fn expects(version: Version, fields: &Fields<'_>, framing: Framing) -> bool
     ensures { result ≡ spec.expects_of version fields.now framing }
 {
     if version == Version::Old || framing == Framing::Empty {
         return false;
     }
-    match value_of(fields, b"expect") {
+    match fields.value_of(b"expect") {
         Some(value) => is_text(value, b"100-continue"),
         None => false,
     }
@@ -81,17 +80,17 @@ fn lists_option(options: &[u8], name: &[u8]) -> bool
         .any(|option| is_option(option, name))
 }
 
-fn has_option(fields: &[Field], name: &[u8]) -> bool
+fn has_option(fields: &Fields<'_>, name: &[u8]) -> bool
     ensures { result ≡ spec.has_option name.now (field_value (codes "connection") fields.now) }
 {
-    match value_of(fields, b"connection") {
+    match fields.value_of(b"connection") {
         Some(options) => lists_option(options, name),
         None => false,
     }
 }
 
 // Whether the options of the connection close it (RFC 9112, section 9.3).
-fn is_asked_to_close(version: Version, fields: &[Field]) -> bool
+fn is_asked_to_close(version: Version, fields: &Fields<'_>) -> bool
     ensures { result ≡ spec.closes_by version (field_value (codes "connection") fields.now) }
 {
     match version {
@@ -100,13 +99,13 @@ fn is_asked_to_close(version: Version, fields: &[Field]) -> bool
     }
 }
 
-fn has_field(fields: &[Field], name: &[u8]) -> bool
+fn has_field(fields: &Fields<'_>, name: &[u8]) -> bool
     ensures { result ≡ spec.has_field name.now fields.now }
 {
-    value_of(fields, name).is_some()
+    fields.value_of(name).is_some()
 }
 
-fn has_both(fields: &[Field]) -> bool
+fn has_both(fields: &Fields<'_>) -> bool
     ensures { result ≡ spec.has_both fields.now }
 {
     has_field(fields, b"transfer-encoding") && has_field(fields, b"content-length")
@@ -114,7 +113,7 @@ fn has_both(fields: &[Field]) -> bool
 
 /// Whether the connection closes behind the response (RFC 9112, sections 6.1 and 9.3).
 #[tactic(auto, unfolding(crate::specs::Framings::closes_of))]
-pub fn closes(version: Version, fields: &[Field]) -> bool
+pub fn closes(version: Version, fields: &Fields<'_>) -> bool
     ensures { result ≡ spec.closes_of version fields.now }
 {
     is_asked_to_close(version, fields) || has_both(fields)

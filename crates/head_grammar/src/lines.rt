@@ -1,22 +1,23 @@
 //! The lines of a head.
 ghost use Rattle.std.specs.Prelude.{◌≡◌, ◌∷◌, [], IfSome, IfNone, true, false};
 ghost use Rattle.std.specs.Iterator.{YieldsFirstRef, item_count};
-ghost use Rattle.head_grammar.specs.Lines.{lines, skip_empty};
+ghost use Rattle.head_grammar.specs.Lines.{line_mark, lines, skip_empty};
 ghost use Rattle.head_grammar.specs.FieldLines.{continues, first_continues};
 
 use crate::classes::is_white_space;
-use memchr::memmem;
+use memchr::memmem::Finder;
 use std::marker::Model;
 
 // The first line, and what stands behind the CR LF that ends it.
-fn cut_line(text: &[u8]) -> Option<(&[u8], &[u8])>
+fn cut_line<'a>(mark: &Finder<'static>, text: &'a [u8]) -> Option<(&'a [u8], &'a [u8])>
+    requires { mark.now ≡ line_mark }
     ensures lines { IfSome result (λ cut. lines text.now ≡ cut.0.now ∷ lines cut.1.now) }
     ensures none { IfNone result (lines text.now ≡ []) }
 {
     if text.is_empty() {
         return None;
     }
-    match memmem::find(text, b"\r\n") {
+    match mark.find(text) {
         Some(at) => Some((&text[..at], &text[at + 2..])),
         None => Some((text, &[])),
     }
@@ -34,22 +35,34 @@ fn first_continues(text: &[u8]) -> bool
 #[derive(Drop)]
 pub struct Lines<'a> {
     rest: &'a [u8],
+    // the search for CR LF, which is prepared once
+    mark: Finder<'static>,
 }
 
 impl<'a> Model for Lines<'a> {
-    ghost use Rattle.std.specs.Prelude.{List, ℕ};
-    ghost use Rattle.head_grammar.specs.Lines.{lines};
+    ghost use Rattle.std.specs.Prelude.{◌≡◌, List, ℕ};
+    ghost use Rattle.head_grammar.specs.Lines.{line_mark, lines};
 
     ghost Value = { List (List ℕ) };
 
     ghost view = { λ s. lines s.rest.now };
+
+    ghost invariant = { λ s. s.mark ≡ line_mark };
 }
 
 impl<'a> Lines<'a> {
     pub fn new(text: &'a [u8]) -> Lines<'a>
         ensures { result ≡ lines text.now }
     {
-        Lines { rest: text }
+        Lines {
+            rest: text,
+            mark: Finder::new(b"\r\n"),
+        }
+    }
+
+    /// How many bytes are left.
+    pub fn size(&self) -> usize {
+        self.rest.len()
     }
 
     /// Takes off the empty lines in front and the line behind them, and gives that line.
@@ -94,7 +107,7 @@ impl<'a> Iterator for Lines<'a> {
     ghost remaining = { item_count (λ s. s) };
 
     fn next(&mut self) -> Option<&'a [u8]> {
-        let (line, rest) = cut_line(self.rest)?;
+        let (line, rest) = cut_line(&self.mark, self.rest)?;
         self.rest = rest;
         Some(line)
     }

@@ -1,22 +1,74 @@
 //! What a request line says.
 ghost use Rattle.std.specs.Prelude.{◌≡◌, ◌≢◌, ◌∷◌, [], length, IfOk, IfSome, IfNone};
 ghost use Rattle.head_grammar.specs.RequestLines as spec;
+ghost use Rattle.head_grammar.specs.Targets.{path_of, query_of};
 
 use crate::splits::place_of;
-use crate::targets::read_target;
+use crate::targets::{cut_target, push_path};
 use crate::{Refusal, Version};
 use byte_tables::{is_digit, is_target, is_token};
-use outside::Bytes;
 use std::alloc::{AllocError, Global};
+use std::marker::Model;
 
 /// A request line (RFC 9112, section 3).
 #[derive(Debug, Drop)]
 pub struct RequestLine {
-    pub method: Bytes,
-    pub target: Bytes,
-    pub path: Bytes,
-    pub query: Bytes,
-    pub version: Version,
+    // the method, the target, the path and the query, one behind the other
+    text: Vec<u8>,
+    method_end: usize,
+    target_end: usize,
+    path_end: usize,
+    version: Version,
+}
+
+impl Model for RequestLine {
+    ghost use Rattle.std.specs.Prelude.{◌≤◌, ◌-◌, length, take, drop};
+    ghost use Rattle.head_grammar.specs.Heads.{RequestLine};
+
+    ghost Value = { RequestLine };
+
+    ghost view = { λ line. record {
+      method = take line.method_end line.text.items;
+      target = take (line.target_end - line.method_end) (drop line.method_end line.text.items);
+      path = take (line.path_end - line.target_end) (drop line.target_end line.text.items);
+      query = drop line.path_end line.text.items;
+      version = line.version;
+    } };
+
+    ghost invariant = { λ line. (line.method_end ≤ line.target_end)
+        × (line.target_end ≤ line.path_end) × (line.path_end ≤ length line.text.items) };
+}
+
+impl RequestLine {
+    pub fn method(&self) -> &[u8]
+        ensures { result.now ≡ self.now.method }
+    {
+        &self.text[..self.method_end]
+    }
+
+    pub fn target(&self) -> &[u8]
+        ensures { result.now ≡ self.now.target }
+    {
+        &self.text[self.method_end..self.target_end]
+    }
+
+    pub fn path(&self) -> &[u8]
+        ensures { result.now ≡ self.now.path }
+    {
+        &self.text[self.target_end..self.path_end]
+    }
+
+    pub fn query(&self) -> &[u8]
+        ensures { result.now ≡ self.now.query }
+    {
+        &self.text[self.path_end..]
+    }
+
+    pub fn version(&self) -> Version
+        ensures { result ≡ self.now.version }
+    {
+        self.version
+    }
 }
 
 // The first part, and what stands behind the SP that ends it.
@@ -73,6 +125,41 @@ fn is_request_target(part: &[u8]) -> bool
     part.iter().all(|byte| is_target(*byte))
 }
 
+// The line of these parts, in one text.
+#[tactic(auto, unfolding(crate::specs::Targets::path_of))]
+fn line_of(
+    alloc: Global,
+    method: &[u8],
+    target: &[u8],
+    version: Version,
+) -> Result<RequestLine, AllocError>
+    ensures { IfOk result (λ line. line ≡ record {
+      method = method.now;
+      target = target.now;
+      path = path_of target.now;
+      query = query_of target.now;
+      version = version;
+    }) }
+{
+    let (path, query) = cut_target(target);
+    let room = method.len().saturating_add(target.len());
+    let mut text = Vec::with_capacity(alloc, room.saturating_add(target.len()))?;
+    text.extend_from_slice(method)?;
+    let method_end = text.len();
+    text.extend_from_slice(target)?;
+    let target_end = text.len();
+    push_path(&mut text, path)?;
+    let path_end = text.len();
+    text.extend_from_slice(query)?;
+    Ok(RequestLine {
+        text,
+        method_end,
+        target_end,
+        path_end,
+        version,
+    })
+}
+
 /// What a request line says, or its refusal.
 #[tactic(auto, unfolding(crate::specs::RequestLines::request_line))]
 pub fn read_request_line(
@@ -96,12 +183,5 @@ pub fn read_request_line(
     if !is_request_target(target) {
         return Ok(Err(Refusal::Target));
     }
-    let (path, query) = read_target(alloc, target)?;
-    Ok(Ok(RequestLine {
-        method: Bytes::from_slice(alloc, method)?,
-        target: Bytes::from_slice(alloc, target)?,
-        path,
-        query,
-        version: version_of(version),
-    }))
+    Ok(Ok(line_of(alloc, method, target, version_of(version))?))
 }

@@ -1,24 +1,13 @@
 //! What a request's target names: a path and a query.
-ghost use Rattle.std.specs.Prelude.{◌≡◌, IfOk};
+ghost use Rattle.std.specs.Prelude.{◌≡◌, ◌++◌, OnOk};
 ghost use Rattle.std.specs.List.{list_all};
 ghost use Rattle.percent_encoding.specs.Iter.{decoded_bytes};
 ghost use Rattle.percent_encoding.specs.Percent as percent;
 ghost use Rattle.head_grammar.specs.Targets as spec;
 
 use crate::splits::{cut_at, place_or_end};
-use outside::Bytes;
 use percent_encoding::{PercentDecode, percent_decode};
-use std::alloc::{AllocError, Global};
-
-// The path as it was sent, with what stands in front of it, and the query.
-#[tactic(auto, unfolding(crate::specs::Targets::query_of))]
-fn cut_target(target: &[u8]) -> (&[u8], &[u8])
-    ensures path { spec.without_authority result.0.now ≡ spec.raw_path target.now }
-    ensures query { result.1.now ≡ spec.query_of target.now }
-{
-    let (named, _) = cut_at(target, b'#');
-    cut_at(named, b'?')
-}
+use std::alloc::AllocError;
 
 fn are_scheme_bytes(bytes: &[u8]) -> bool
     ensures { result ≡ list_all spec.is_scheme_byte bytes.now }
@@ -59,25 +48,22 @@ fn without_slashes(decoded: PercentDecode<'_>) -> PercentDecode<'_>
     rest
 }
 
-// The escapes are read in the one copy.
-fn decoded_path(alloc: Global, raw: &[u8]) -> Result<Bytes, AllocError>
-    ensures { IfOk result (λ path. path ≡ spec.rooted (percent.percent_decode raw.now)) }
+/// Adds the path of a target, of which this was sent. The escapes are read in the one copy.
+pub fn push_path(text: &mut Vec<u8>, raw: &[u8]) -> Result<(), AllocError>
+    ensures { OnOk result (text.new.items
+        ≡ text.old.items ++ spec.rooted (percent.percent_decode raw.now)) }
 {
-    let mut path = Vec::with_capacity(alloc, raw.len() + 1)?;
-    path.push(b'/')?;
-    without_slashes(percent_decode(raw)).append_to(&mut path)?;
-    Ok(Bytes::from_vec(path))
+    text.push(b'/')?;
+    without_slashes(percent_decode(raw)).append_to(text)
 }
 
-/// The path and the query of a target (RFC 9112, section 3.2).
-#[tactic(auto, unfolding(crate::specs::Targets::path_of))]
-pub fn read_target(alloc: Global, target: &[u8]) -> Result<(Bytes, Bytes), AllocError>
-    ensures path { IfOk result (λ parts. parts.0 ≡ spec.path_of target.now) }
-    ensures query { IfOk result (λ parts. parts.1 ≡ spec.query_of target.now) }
+/// The path of a target as it was sent, and the query (RFC 9112, section 3.2).
+#[tactic(auto, unfolding(crate::specs::Targets::query_of))]
+pub fn cut_target(target: &[u8]) -> (&[u8], &[u8])
+    ensures path { result.0.now ≡ spec.raw_path target.now }
+    ensures query { result.1.now ≡ spec.query_of target.now }
 {
-    let (path, query) = cut_target(target);
-    Ok((
-        decoded_path(alloc, without_authority(path))?,
-        Bytes::from_slice(alloc, query)?,
-    ))
+    let (named, _) = cut_at(target, b'#');
+    let (path, query) = cut_at(named, b'?');
+    (without_authority(path), query)
 }

@@ -1,6 +1,7 @@
-//! What a request head says.
+//! What a request head is made of, and the verdict on one.
+use crate::Head;
 use byte_tables::Refusal;
-use outside::{Bytes, Items};
+use outside::Bytes;
 
 /// The version by which a request is served: `New` is 1.1, and `Old` is every other.
 #[derive(Clone, Copy, Debug, PartialEq, Eq)]
@@ -9,7 +10,7 @@ pub enum Version {
     New,
 }
 
-/// A field line. Where a head was read, its name is in lower case.
+/// A field line.
 #[derive(Debug, Drop)]
 pub struct Field {
     pub name: Bytes,
@@ -22,25 +23,6 @@ pub enum Framing {
     Empty,
     Fixed(u64),
     Chunked,
-}
-
-/// A request head.
-#[derive(Debug, Drop)]
-pub struct Head {
-    pub method: Bytes,
-    /// As it was sent.
-    pub target: Bytes,
-    pub path: Bytes,
-    pub query: Bytes,
-    pub version: Version,
-    pub fields: Items<Field>,
-    pub framing: Framing,
-    /// Whether the client waits for `100 Continue`.
-    pub expects: bool,
-    /// Whether the connection closes behind the response.
-    pub closes: bool,
-    /// How many bytes the whole head has.
-    pub size: u64,
 }
 
 /// The verdict on a whole head.

@@ -5,12 +5,12 @@ ghost use Rattle.head_grammar.specs.Ends.{head_end};
 ghost use Rattle.head_grammar.specs.Lines.{skip_empty};
 ghost use Rattle.head_grammar.specs.Verdict as spec;
 
-use crate::fields::read_fields;
-use crate::framing::{closes, expects, framing};
+use crate::field_lines::read_fields;
+use crate::framing::framing;
 use crate::lines::Lines;
 use crate::request_line::{RequestLine, read_request_line};
-use crate::{Field, Framing, Head, Parsed, Refusal, Version};
-use outside::{Items, NoMemory};
+use crate::{FieldList, Framing, Head, Parsed, Refusal, Version};
+use outside::NoMemory;
 use std::alloc::{AllocError, Global};
 
 fn is_head(method: &[u8]) -> bool
@@ -25,35 +25,15 @@ fn bad(line: &RequestLine, refusal: Refusal) -> Parsed
 {
     Parsed::Bad {
         refusal,
-        version: line.version,
-        bodyless: is_head(line.method.as_slice()),
+        version: line.version(),
+        bodyless: is_head(line.method()),
     }
 }
 
-fn good(line: RequestLine, fields: Items<Field>, framing: Framing, size: usize) -> Parsed
+fn good(line: RequestLine, fields: FieldList, framing: Framing, size: usize) -> Parsed
     ensures { result ≡ spec.good line fields framing size }
 {
-    let RequestLine {
-        method,
-        target,
-        path,
-        query,
-        version,
-    } = line;
-    let expects = expects(version, fields.as_slice(), framing);
-    let closes = closes(version, fields.as_slice());
-    Parsed::Good(Head {
-        method,
-        target,
-        path,
-        query,
-        version,
-        fields,
-        framing,
-        expects,
-        closes,
-        size: size as u64,
-    })
+    Parsed::Good(Head::new(line, fields, framing, size as u64))
 }
 
 fn judge_fields(
@@ -70,7 +50,7 @@ fn judge_fields(
         Ok(fields) => fields,
         Err(refusal) => return Ok(bad(&line, refusal)),
     };
-    Ok(match framing(line.version, fields.as_slice(), max_body) {
+    Ok(match framing(line.version(), &fields.fields(), max_body) {
         Ok(framing) => good(line, fields, framing, size),
         Err(refusal) => bad(&line, refusal),
     })

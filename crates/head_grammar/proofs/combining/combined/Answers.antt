@@ -6,5 +6,5 @@ use Rattle.head_grammar.proofs.combining.combined.Goals as goal
 
 pub returns-then-branch : goal.returns-then-branch
 returns-then-branch c =
-    sym (combined_same c.args.fields (ap names_differ (sym c.as_slice.ensures)
+    sym (combined_same c.args.fields (ap names_differ (sym c.fields-lent.ensures)
     ∙ (sym c.in_ok-names_differ.ensures ∙ c.if-branch.true)))

@@ -8,5 +8,5 @@ abbrev pub invariant-loop-line : goal.invariant-loop-line
 invariant-loop-line l = record {
   can : (goal.iterator-loop-line).can_next l.lines;
   ends : (goal.iterator-loop-line).is_finite l.lines;
-  same : kept_fields l.fn.lines ≡ behind l.fields.items (field_lines (unfolded l.lines));
+  same : kept_fields l.fn.lines ≡ behind l.fields (field_lines (unfolded l.lines));
 }

@@ -1,7 +1,7 @@
 -- What is joined so far stands before the lines that are left as the line did.
 use Rattle.std.proofs.Common.{◌≡◌, ◌≤◌, length}
 use Rattle.head_grammar.specs.FieldLines.{first_continues, onto_lines, unfolded}
-use Rattle.head_grammar.proofs.field_lines.joined.Given as goal
+use Rattle.head_grammar.proofs.whole_line.joined.Given as goal
 
 abbrev pub invariant-loop-next : goal.invariant-loop-next
 invariant-loop-next l = record {

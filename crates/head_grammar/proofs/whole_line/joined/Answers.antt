@@ -2,7 +2,7 @@
 use Rattle.std.proofs.Common.{rules, arith, sym, ap, ◌∙◌, ◌∷◌, length}
 use Rattle.head_grammar.specs.FieldLines.{first_continues, onto_lines, unfolded}
 use Rattle.head_grammar.proofs.Unfolding.{joined_more, joined_whole}
-use Rattle.head_grammar.proofs.field_lines.joined.Goals as goal
+use Rattle.head_grammar.proofs.whole_line.joined.Goals as goal
 
 pub loop-next-preserved : goal.loop-next-preserved
 loop-next-preserved c =
