@@ -1,6 +1,6 @@
 -- Four texts, one behind the other, and where each ends.
-use Rattle.std.proofs.Common.{◌≡◌, ◌+◌, ◌-◌, ℕ, List, [], ◌∷◌, ◌++◌, length, take, drop}
-use Rattle.std.proofs.Common.{refl, ap, sym, ◌∙◌, arith}
+use Rattle.std.proofs.Common.{◌≡◌, ◌+◌, ◌-◌, ℕ, List, ◌++◌, length, take, drop}
+use Rattle.std.proofs.Common.{ap, ◌∙◌, arith}
 use Rattle.std.proofs.lemmas.List.{append_assoc, length-append}
 use Rattle.std.proofs.Math.Seq.{take-append_seam, drop-append_seam}
 use Rattle.head_grammar.specs.Heads.{RequestLine}
@@ -56,8 +56,8 @@ pub line_is : (version : Version) (method target path query first second third t
 line_is version method target path query first second third text method_end target_end path_end
     a b c d k m n =
     let whole = d ∙ ap (λ t. t ++ query) c ∙ append_assoc second path query in
-    let behind = whole ∙ ap (λ t. t ++ (path ++ query)) b ∙ append_assoc first target (path ++ query)
-    in
+    let others = path ++ query in
+    let behind = whole ∙ ap (λ t. t ++ others) b ∙ append_assoc first target others in
     let size = ap length b ∙ length-append first target in
     let more = ap length c ∙ length-append second path in
     same_line version

@@ -4,20 +4,16 @@ use Rattle.std.proofs.Common.{suc, refl, ap, sym, ◌∙◌, arith}
 use Rattle.std.proofs.lemmas.List.{take-append-le, drop-append-le, append_assoc}
 use Rattle.std.proofs.lemmas.List.{length-drop, length-append, length-map}
 use Rattle.std.proofs.Math.Seq.{take-append_seam, drop-append_seam, take-length}
-use Rattle.head_grammar.specs.Cuts.{cut, total}
-use Rattle.head_grammar.specs.declared.types.Field.{Field}
-
-abbrev pub field : List ℕ → List ℕ → Field
-field name value = record { name = name; value = value }
+use Rattle.head_grammar.specs.Cuts.{cut, field_of, total}
 
 cut_more : (text : List ℕ) (sizes : List (ℕ × ℕ)) (name value : List ℕ) →
     total sizes ≡ length text →
     cut (text ++ (name ++ value)) (sizes ++ (length name, length value) ∷ [])
-    ≡ cut text sizes ++ field name value ∷ []
+    ≡ cut text sizes ++ field_of name value ∷ []
 cut_more [] [] name value w =
-    ap (λ x. field x (take (length value) (drop (length name) (name ++ value))) ∷ [])
+    ap (λ x. field_of x (take (length value) (drop (length name) (name ++ value))) ∷ [])
     (take-append_seam name value) ∙
-    ap (λ y. field name y ∷ [])
+    ap (λ y. field_of name y ∷ [])
     (ap (take (length value)) (drop-append_seam name value) ∙ take-length value)
 cut_more (b ∷ bs) [] name value w = absurd (omega arith)
 cut_more text (size ∷ sizes) name value w =
@@ -30,11 +26,11 @@ cut_more text (size ∷ sizes) name value w =
     let b = ap (take size.1) d ∙ take-append-le size.1 (drop size.0 text) more (omega arith) in
     let e = ap (drop size.1) d ∙ drop-append-le size.1 (drop size.0 text) more (omega arith) in
     let ih = cut_more (drop size.1 (drop size.0 text)) sizes name value (omega arith) in
-    ap (λ x. field x (take size.1 (drop size.0 (text ++ more)))
+    ap (λ x. field_of x (take size.1 (drop size.0 (text ++ more)))
     ∷ cut (drop size.1 (drop size.0 (text ++ more))) (sizes ++ last ∷ [])) a ∙
-    (ap (λ y. field (take size.0 text) y
+    (ap (λ y. field_of (take size.0 text) y
     ∷ cut (drop size.1 (drop size.0 (text ++ more))) (sizes ++ last ∷ [])) b ∙
-    ap (λ zs. field (take size.0 text) (take size.1 (drop size.0 text)) ∷ zs)
+    ap (λ zs. field_of (take size.0 text) (take size.1 (drop size.0 text)) ∷ zs)
     (ap (λ t. cut t (sizes ++ last ∷ [])) e ∙ ih))
 
 total_more : (sizes : List (ℕ × ℕ)) (n m : ℕ) →
@@ -65,7 +61,7 @@ still_total text new name value sizes more w p q =
 pub cuts_more : (text new name value : List ℕ) (sizes more : List (ℕ × ℕ)) →
     total sizes ≡ length text → new ≡ text ++ (name ++ value) →
     more ≡ sizes ++ (length name, length value) ∷ [] →
-    cut new more ≡ cut text sizes ++ field name value ∷ []
+    cut new more ≡ cut text sizes ++ field_of name value ∷ []
 cuts_more text new name value sizes more w p q =
     ap (λ t. cut t more) p ∙
     (ap (cut (text ++ (name ++ value))) q ∙ cut_more text sizes name value w)

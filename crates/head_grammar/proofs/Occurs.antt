@@ -1,7 +1,7 @@
 -- Where a needle stands in a text behind its first byte, in a front and in the rest of a text.
 use Rattle.std.proofs.Common.{◌≡◌, ◌≤◌, ◌<◌, ◌+◌, ◌-◌, ℕ, suc, List, ◌∷◌, length, take, drop}
 use Rattle.std.proofs.Common.{get_or, None, Some, ap, sym, ◌∙◌, arith}
-use Rattle.std.proofs.lemmas.List.{length-take, length-drop, get_or-take, get_or-drop, take_all}
+use Rattle.std.proofs.lemmas.List.{length-take, length-drop, get_or-take, get_or-drop}
 use Rattle.memchr.specs.Find.{OccursAt, FindsNeedle}
 
 -- an element behind the first one

@@ -2,11 +2,14 @@
 use Rattle.std.specs.Prelude.{ℕ, ◌+◌, List, [], ◌∷◌, take, drop}
 use Rattle.head_grammar.specs.declared.types.Field.{Field}
 
+abbrev pub field_of : List ℕ → List ℕ → Field
+field_of name value = record { name = name; value = value }
+
 -- the fields, by how long the name and the value of each are
 abbrev pub cut : List ℕ → List (ℕ × ℕ) → List Field
 cut text [] = []
 cut text (size ∷ sizes) =
-    record { name = take size.0 text; value = take size.1 (drop size.0 text) }
+    field_of (take size.0 text) (take size.1 (drop size.0 text))
     ∷ cut (drop size.1 (drop size.0 text)) sizes
 
 -- how long they are together

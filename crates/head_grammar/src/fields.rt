@@ -2,7 +2,7 @@
 ghost use Rattle.std.specs.Prelude.{◌≡◌, ◌==◌, length, option_copied};
 ghost use Rattle.std.specs.List.{list_any};
 ghost use Rattle.std.specs.Iterator.{YieldsFirstBy, item_count};
-ghost use Rattle.head_grammar.specs.Cuts.{cut, total};
+ghost use Rattle.head_grammar.specs.Cuts.{cut, field_of, total};
 ghost use Rattle.head_grammar.specs.FieldLines.{field_value, has_name};
 
 use std::marker::Model;
@@ -87,7 +87,7 @@ impl<'a> Fields<'a> {
 impl<'a> Iterator for Fields<'a> {
     type Item = (&'a [u8], &'a [u8]);
 
-    ghost next_gives = { YieldsFirstBy (λ pair. record { name = pair.0.now; value = pair.1.now }) (λ fields. fields) };
+    ghost next_gives = { YieldsFirstBy (λ pair. field_of pair.0.now pair.1.now) (λ fields. fields) };
 
     ghost remaining = { item_count (λ fields. fields) };
 

@@ -1,5 +1,6 @@
 -- A value goes to the field of its name, or a field is the last one.
-use Rattle.std.proofs.Common.{◌∙◌, ◌++◌, ◌∷◌, [], sym, ap, length, rules, refl, Some, None, set, cond}
+use Rattle.std.proofs.Common.{◌∙◌, ◌++◌, ◌∷◌, [], sym, ap, length, rules, refl, Some, None, set}
+use Rattle.std.proofs.Common.{cond}
 use Rattle.std.specs.Prelude.{position}
 use Rattle.std.specs.BTreeMap.{get_by}
 use Rattle.std.specs.Cmp.Lexicographic.{slice_cmp}
