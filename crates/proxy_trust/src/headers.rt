@@ -4,7 +4,7 @@ ghost use Rattle.proxy_trust.specs.Headers as spec;
 ghost use Rattle.proxy_trust.specs.Rules as rule;
 
 use crate::ProxyRules;
-use head_grammar::{Field, value_of};
+use head_grammar::Fields;
 use outside::{Bytes, Kind, Peer};
 
 /// The name of a kind's header, in lower case.
@@ -57,7 +57,7 @@ fn is_proxy(proxy: &Option<Bytes>, address: &[u8]) -> bool
 pub fn used<'a>(
     rules: &ProxyRules,
     peer: &Peer,
-    fields: &'a [Field],
+    fields: &Fields<'a>,
     kind: Kind,
 ) -> Option<&'a [u8]>
     ensures { option_copied result ≡ rule.used rules.now peer.now fields.now kind }
@@ -67,5 +67,5 @@ pub fn used<'a>(
     if !believed {
         return None;
     }
-    value_of(fields, name_of(kind))
+    fields.value_of(name_of(kind))
 }

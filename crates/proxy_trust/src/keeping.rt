@@ -3,27 +3,18 @@ ghost use Rattle.std.specs.Prelude.{◌≡◌, ◌++◌, ◌<◌, find, length, 
 ghost use Rattle.head_grammar.specs.FieldLines.{has_name};
 ghost use Rattle.proxy_trust.specs.Kept as spec;
 
+use crate::KeptField;
 use crate::headers::is_proxy_name;
-use head_grammar::Field;
+use head_grammar::Fields;
 use outside::{Bytes, Items};
 use std::alloc::{AllocError, Global};
 
 pub const HOST: &[u8] = b"host";
 
-fn field_of(alloc: Global, name: &[u8], value: Bytes) -> Result<Field, AllocError>
-    ensures { IfOk result (λ field. field ≡ record { name = name.now; value = value }) }
-{
-    Ok(Field {
-        name: Bytes::from_slice(alloc, name)?,
-        value,
-    })
-}
-
 /// Adds a new field, where there is a value for it.
-pub fn add_new(
-    alloc: Global,
-    news: &mut Vec<Field>,
-    name: &[u8],
+pub fn add_new<'a>(
+    news: &mut Vec<KeptField<'a>>,
+    name: &'a [u8],
     value: Option<Bytes>,
 ) -> Result<(), AllocError>
     ensures { IfOk result (λ _. news.new.items
@@ -31,22 +22,20 @@ pub fn add_new(
 {
     match value {
         None => {}
-        Some(value) => news.push(field_of(alloc, name, value)?)?,
+        Some(value) => news.push(KeptField::told(name, value))?,
     }
     Ok(())
 }
 
-fn place_of(fields: &[Field], name: &[u8]) -> Option<usize>
+fn place_of(fields: &[KeptField<'_>], name: &[u8]) -> Option<usize>
     ensures place { result ≡ position (has_name name.now) fields.now }
     ensures within { IfSome result (λ at. at < length fields.now) }
 {
-    fields
-        .iter()
-        .position(|field| name == field.name.as_slice())
+    fields.iter().position(|field| name == field.name())
 }
 
 // Takes out the first field of this name.
-fn take(fields: &mut Vec<Field>, name: &[u8]) -> Option<Field>
+fn take<'a>(fields: &mut Vec<KeptField<'a>>, name: &[u8]) -> Option<KeptField<'a>>
     ensures first { result ≡ find (has_name name.now) fields.old.items }
     ensures left { fields.new.items ≡ spec.without name.now fields.old.items }
 {
@@ -55,42 +44,38 @@ fn take(fields: &mut Vec<Field>, name: &[u8]) -> Option<Field>
 }
 
 // Adds what becomes of a field.
-fn keep(
-    alloc: Global,
-    kept: &mut Vec<Field>,
-    field: &Field,
-    new: Option<Field>,
+fn keep<'a>(
+    kept: &mut Vec<KeptField<'a>>,
+    name: &'a [u8],
+    value: &'a [u8],
+    new: Option<KeptField<'a>>,
     clear: bool,
 ) -> Result<(), AllocError>
-    ensures { IfOk result (λ _. kept.new.items
-        ≡ kept.old.items ++ spec.kept_field clear field.now new) }
+    ensures { IfOk result (λ _. kept.new.items ≡ kept.old.items
+        ++ spec.kept_field clear (record { name = name.now; value = value.now }) new.entry) }
 {
-    let name = field.name.as_slice();
     match new {
         Some(new) => kept.push(new)?,
         None if clear && is_proxy_name(name) => {}
-        None => {
-            let value = Bytes::from_slice(alloc, field.value.as_slice())?;
-            kept.push(field_of(alloc, name, value)?)?;
-        }
+        None => kept.push(KeptField::sent(name, value))?,
     }
     Ok(())
 }
 
 /// The fields, where new ones stand in place of the first ones of their names.
 #[tactic(auto, unfolding(crate::specs::Kept::kept_fields))]
-pub fn keep_fields(
+pub fn keep_fields<'a>(
     alloc: Global,
-    fields: &[Field],
-    mut news: Vec<Field>,
+    fields: &Fields<'a>,
+    mut news: Vec<KeptField<'a>>,
     clear: bool,
-) -> Result<Items<Field>, AllocError>
-    ensures { IfOk result (λ kept. kept ≡ spec.kept_fields clear news.items fields.now) }
+) -> Result<Items<KeptField<'a>>, AllocError>
+    ensures { IfOk result (λ kept. kept ≡ spec.kept_fields clear news.entry.items fields.now) }
 {
-    let mut kept = Vec::new(alloc);
-    for field in fields {
-        let new = take(&mut news, field.name.as_slice());
-        keep(alloc, &mut kept, field, new, clear)?;
+    let mut kept = Vec::with_capacity(alloc, fields.len().saturating_add(1))?;
+    for (name, value) in fields.iter() {
+        let new = take(&mut news, name);
+        keep(&mut kept, name, value, new, clear)?;
     }
     match take(&mut news, HOST) {
         None => {}

@@ -4,6 +4,7 @@
 
 mod endpoint;
 mod headers;
+mod kept_field;
 mod keeping;
 mod lists;
 mod reading;
@@ -14,5 +15,6 @@ mod tests;
 mod trusting;
 mod types;
 
+pub use kept_field::KeptField;
 pub use trusting::trust;
 pub use types::{ProxyFault, ProxyRules, Trusted};

@@ -9,7 +9,7 @@ use crate::endpoint::{Endpoint, is_port, read_endpoint};
 use crate::headers::used;
 use crate::lists::read_list;
 use crate::{ProxyFault, ProxyRules};
-use head_grammar::Field;
+use head_grammar::Fields;
 use outside::{Bytes, Kind, Peer};
 use std::alloc::Global;
 
@@ -153,7 +153,7 @@ pub fn read_all(
     alloc: Global,
     rules: &ProxyRules,
     peer: &Peer,
-    fields: &[Field],
+    fields: &Fields<'_>,
 ) -> Result<ProxyHeaders, ProxyFault>
     requires { IsSound rules.now }
     ensures { Answers result (spec.read_all rules.now peer.now fields.now) }

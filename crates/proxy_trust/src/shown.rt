@@ -4,7 +4,7 @@ ghost use Rattle.proxy_trust.specs.Rules.{IsSound};
 
 use crate::headers::{is_listed, name_of};
 use crate::{ProxyFault, ProxyRules, Trusted, trust};
-use head_grammar::Field;
+use head_grammar::{Field, FieldList};
 use outside::{Bytes, Items, Kind, Peer};
 use std::alloc::{AllocError, Global};
 
@@ -120,7 +120,7 @@ fn show_part(text: &mut Vec<u8>, part: &Option<Bytes>) -> Result<(), AllocError>
 }
 
 // The client's address and port, the server's name and port, the scheme, and the fields.
-fn show(alloc: Global, trusted: &Trusted) -> Result<Vec<u8>, AllocError> {
+fn show(alloc: Global, trusted: &Trusted<'_>) -> Result<Vec<u8>, AllocError> {
     let mut text = Vec::new(alloc);
     show_part(&mut text, &trusted.addr)?;
     show_part(&mut text, &trusted.port)?;
@@ -129,9 +129,9 @@ fn show(alloc: Global, trusted: &Trusted) -> Result<Vec<u8>, AllocError> {
     show_part(&mut text, &trusted.scheme)?;
     for field in trusted.fields.as_slice() {
         text.extend_from_slice(b"|")?;
-        show_name(&mut text, field.name.as_slice())?;
+        show_name(&mut text, field.name())?;
         text.extend_from_slice(b"=")?;
-        text.extend_from_slice(field.value.as_slice())?;
+        text.extend_from_slice(field.value())?;
     }
     Ok(text)
 }
@@ -153,8 +153,8 @@ fn answer(alloc: Global, rules: Rules, addr: &str, fields: &str) -> Result<Vec<u
         port: 5000,
         local_port: 8080,
     };
-    let fields = fields_of(alloc, fields)?;
-    match trust(alloc, &rules, &peer, &fields) {
+    let fields = FieldList::of(alloc, &fields_of(alloc, fields)?)?;
+    match trust(alloc, &rules, &peer, &fields.fields()) {
         Ok(trusted) => return show(alloc, &trusted),
         Err(ProxyFault::Malformed(kind)) => show_name(&mut text, name_of(kind))?,
         Err(ProxyFault::NoMemory) => {}

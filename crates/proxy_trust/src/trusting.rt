@@ -9,7 +9,7 @@ use crate::headers::name_of;
 use crate::keeping::{HOST, add_new, keep_fields};
 use crate::reading::{ClientList, HostList, ProxyHeaders, Scheme, SentScheme, read_all};
 use crate::{ProxyFault, ProxyRules, Trusted};
-use head_grammar::Field;
+use head_grammar::Fields;
 use outside::{Bytes, Kind, Peer};
 use std::alloc::{AllocError, Global};
 
@@ -103,12 +103,12 @@ fn server_port(
     }
 }
 
-fn take_headers(
+fn take_headers<'a>(
     alloc: Global,
     clear: bool,
-    fields: &[Field],
+    fields: &Fields<'a>,
     headers: ProxyHeaders,
-) -> Result<Trusted, AllocError>
+) -> Result<Trusted<'a>, AllocError>
     ensures { IfOk result (λ trusted. trusted ≡ spec.taken clear fields.now headers) }
 {
     let (clients, addr, port) = client_parts(headers.clients);
@@ -116,12 +116,12 @@ fn take_headers(
     let (proto, scheme) = proto_parts(headers.proto);
     let server_port = server_port(alloc, &headers.port, host_port, scheme)?;
     let mut news = Vec::new(alloc);
-    add_new(alloc, &mut news, name_of(Kind::For), clients)?;
-    add_new(alloc, &mut news, name_of(Kind::Host), hosts)?;
-    add_new(alloc, &mut news, name_of(Kind::Proto), proto)?;
-    add_new(alloc, &mut news, name_of(Kind::Port), headers.port)?;
-    add_new(alloc, &mut news, name_of(Kind::By), headers.by)?;
-    add_new(alloc, &mut news, HOST, host)?;
+    add_new(&mut news, name_of(Kind::For), clients)?;
+    add_new(&mut news, name_of(Kind::Host), hosts)?;
+    add_new(&mut news, name_of(Kind::Proto), proto)?;
+    add_new(&mut news, name_of(Kind::Port), headers.port)?;
+    add_new(&mut news, name_of(Kind::By), headers.by)?;
+    add_new(&mut news, HOST, host)?;
     Ok(Trusted {
         fields: keep_fields(alloc, fields, news, clear)?,
         addr,
@@ -133,14 +133,14 @@ fn take_headers(
 }
 
 /// What the proxies tell of a request with these fields, whose names are in lower case: the
-/// fields that stay, and what they replace.
+/// fields that stay, which aren't copied, and what they replace.
 #[tactic(auto, unfolding(crate::specs::Trust::trusted))]
-pub fn trust(
+pub fn trust<'a>(
     alloc: Global,
     rules: &ProxyRules,
     peer: &Peer,
-    fields: &[Field],
-) -> Result<Trusted, ProxyFault>
+    fields: &Fields<'a>,
+) -> Result<Trusted<'a>, ProxyFault>
     requires sound { IsSound rules.now }
     ensures { Answers result (spec.trusted rules.now peer.now fields.now) }
 {
