@@ -1,10 +1,10 @@
-//! The verdict once more, written plainly from the rules: it shares no code with the parser, and
-//! takes memory and time as it likes.
+//! The verdict once more, as text, written plainly from the rules: it shares no code with the
+//! parser, and takes memory and time as it likes.
 use crate::plain_fields::fields_of;
 use crate::plain_path::path_of;
 use crate::plain_text::{behind, cut, is_tchar, without_blanks};
-use head_grammar::{Field, Framing, Head, Parsed, Refusal, Version};
-use outside::{Bytes, Items};
+use crate::shown::{Front, show_field, show_front, shown};
+use head_grammar::{Field, Framing, Parsed, Refusal, Version};
 use std::alloc::{AllocError, Global};
 
 fn value_of<'a>(fields: &'a [Field], name: &[u8]) -> Option<&'a [u8]> {
@@ -78,10 +78,9 @@ fn refused(refusal: Refusal) -> Parsed {
 fn good(
     alloc: Global,
     parts: (&[u8], &[u8], Version),
-    fields: Vec<Field>,
+    fields: &[Field],
     framing: Framing,
-    size: usize,
-) -> Result<Parsed, AllocError> {
+) -> Result<Vec<u8>, AllocError> {
     let (method, target, version) = parts;
     let is_new = version == Version::New;
     let named = target
@@ -95,75 +94,80 @@ fn good(
         .copied()
         .collect::<Vec<u8>>(alloc)?;
     let query = behind(&named, &raw, b"?").unwrap_or(&[]);
-    let has_both = value_of(&fields, b"content-length").is_some() && framing == Framing::Chunked;
-    let closes = has_option(alloc, &fields, b"close")?;
-    let stays = is_new || has_option(alloc, &fields, b"keep-alive")?;
-    let waits = match value_of(&fields, b"expect") {
+    let has_both = value_of(fields, b"content-length").is_some() && framing == Framing::Chunked;
+    let closes = has_option(alloc, fields, b"close")?;
+    let stays = is_new || has_option(alloc, fields, b"keep-alive")?;
+    let waits = match value_of(fields, b"expect") {
         Some(value) => value.eq_ignore_ascii_case(b"100-continue"),
         None => false,
     };
-    Ok(Parsed::Good(Head {
-        method: Bytes::from_slice(alloc, method)?,
-        target: Bytes::from_slice(alloc, target)?,
-        path: Bytes::from_vec(path_of(alloc, &raw)?),
-        query: Bytes::from_slice(alloc, query)?,
+    let path = path_of(alloc, &raw)?;
+    let front = Front {
+        method,
+        target,
+        path: &path,
+        query,
         version,
-        fields: Items::from_vec(fields),
         framing,
         expects: waits && is_new && framing != Framing::Empty,
         closes: closes || !stays || has_both,
-        size: size as u64,
-    }))
+    };
+    let mut text = Vec::new(alloc);
+    show_front(alloc, &mut text, &front)?;
+    for field in fields {
+        show_field(&mut text, field.name.as_slice(), field.value.as_slice())?;
+    }
+    Ok(text)
 }
 
+// The text of a good head, or the verdict on another.
 fn judged(
     alloc: Global,
     parts: &[Vec<u8>],
     lines: &[Vec<u8>],
-    size: usize,
     max_body: u64,
-) -> Result<Parsed, AllocError> {
+) -> Result<Result<Vec<u8>, Parsed>, AllocError> {
     let [method, target, version] = parts else {
-        return Ok(refused(Refusal::RequestLine));
+        return Ok(Err(refused(Refusal::RequestLine)));
     };
     if method.is_empty() || target.is_empty() || version.is_empty() {
-        return Ok(refused(Refusal::RequestLine));
+        return Ok(Err(refused(Refusal::RequestLine)));
     }
     if !method
         .iter()
         .all(|byte| is_tchar(*byte) && !(b'a'..=b'z').contains(byte))
     {
-        return Ok(refused(Refusal::Method));
+        return Ok(Err(refused(Refusal::Method)));
     }
     let Some(version) = version_of(version) else {
-        return Ok(refused(Refusal::Version));
+        return Ok(Err(refused(Refusal::Version)));
     };
     if target.iter().any(|byte| *byte <= b' ' || *byte >= 0x7F) {
-        return Ok(refused(Refusal::Target));
+        return Ok(Err(refused(Refusal::Target)));
     }
     let bodyless = method.as_slice() == b"HEAD".as_slice();
     let is_new = version == Version::New;
     let fields = match fields_of(alloc, lines)? {
         Ok(fields) => fields,
-        Err(refusal) => return Ok(Parsed::Bad {
+        Err(refusal) => return Ok(Err(Parsed::Bad {
             refusal,
             version,
             bodyless,
-        }),
+        })),
     };
     let framing = match framing_of(is_new, &fields, max_body) {
         Ok(framing) => framing,
-        Err(refusal) => return Ok(Parsed::Bad {
+        Err(refusal) => return Ok(Err(Parsed::Bad {
             refusal,
             version,
             bodyless,
-        }),
+        })),
     };
-    good(alloc, (method, target, version), fields, framing, size)
+    Ok(Ok(good(alloc, (method, target, version), &fields, framing)?))
 }
 
 // Only in front and at its end has a whole head empty lines.
-pub fn verdict(alloc: Global, head: &[u8], max_body: u64) -> Result<Parsed, AllocError> {
+pub fn verdict(alloc: Global, head: &[u8], max_body: u64) -> Result<Vec<u8>, AllocError> {
     let mut lines = Vec::new(alloc);
     for line in &cut(alloc, head, b"\r\n")? {
         if !line.is_empty() {
@@ -171,7 +175,10 @@ pub fn verdict(alloc: Global, head: &[u8], max_body: u64) -> Result<Parsed, Allo
         }
     }
     let Some((line, rest)) = lines.as_slice().split_first() else {
-        return Ok(Parsed::Blank);
+        return shown(alloc, &Parsed::Blank);
     };
-    judged(alloc, &cut(alloc, line, b" ")?, rest, head.len(), max_body)
+    match judged(alloc, &cut(alloc, line, b" ")?, rest, max_body)? {
+        Ok(text) => Ok(text),
+        Err(parsed) => shown(alloc, &parsed),
+    }
 }

@@ -1,6 +1,6 @@
 //! Verdicts as text.
 use crate::plain;
-use head_grammar::{Head, Parsed, Version, head_end, read_head};
+use head_grammar::{Framing, Head, Parsed, Version, head_end, read_head};
 use std::alloc::{AllocError, Global};
 use std::process::Abort;
 
@@ -13,44 +13,76 @@ fn shown_version(version: Version) -> &'static [u8] {
     }
 }
 
-fn show_good(alloc: Global, text: &mut Vec<u8>, head: &Head) -> Result<(), AllocError> {
-    let framing = format!(in alloc; "{:?}", head.framing)?;
-    text.extend_from_slice(shown_version(head.version))?;
+/// What is shown of a head before its fields.
+#[derive(Drop)]
+pub struct Front<'a> {
+    pub method: &'a [u8],
+    pub target: &'a [u8],
+    pub path: &'a [u8],
+    pub query: &'a [u8],
+    pub version: Version,
+    pub framing: Framing,
+    pub expects: bool,
+    pub closes: bool,
+}
+
+pub fn show_front(alloc: Global, text: &mut Vec<u8>, front: &Front<'_>) -> Result<(), AllocError> {
+    let framing = format!(in alloc; "{:?}", front.framing)?;
+    text.extend_from_slice(shown_version(front.version))?;
     text.push(b' ')?;
     text.extend_from_slice(framing.as_bytes())?;
-    if head.expects {
+    if front.expects {
         text.extend_from_slice(b" expects")?;
     }
-    if head.closes {
+    if front.closes {
         text.extend_from_slice(b" closes")?;
     }
     for part in [
         b" ",
-        head.method.as_slice(),
+        front.method,
         b" ",
-        head.target.as_slice(),
+        front.target,
         b" to ",
-        head.path.as_slice(),
+        front.path,
         b"?",
-        head.query.as_slice(),
+        front.query,
     ] {
         text.extend_from_slice(part)?;
-    }
-    for field in head.fields.as_slice() {
-        text.push(b'|')?;
-        text.extend_from_slice(field.name.as_slice())?;
-        text.push(b'=')?;
-        text.extend_from_slice(field.value.as_slice())?;
     }
     Ok(())
 }
 
-// What the verdict says.
-pub fn shown(alloc: Global, parsed: Parsed) -> Result<Vec<u8>, AllocError> {
+pub fn show_field(text: &mut Vec<u8>, name: &[u8], value: &[u8]) -> Result<(), AllocError> {
+    text.push(b'|')?;
+    text.extend_from_slice(name)?;
+    text.push(b'=')?;
+    text.extend_from_slice(value)
+}
+
+fn show_good(alloc: Global, text: &mut Vec<u8>, head: &Head) -> Result<(), AllocError> {
+    let front = Front {
+        method: head.method(),
+        target: head.target(),
+        path: head.path(),
+        query: head.query(),
+        version: head.version(),
+        framing: head.framing(),
+        expects: head.expects(),
+        closes: head.closes(),
+    };
+    show_front(alloc, text, &front)?;
+    for (name, value) in head.fields() {
+        show_field(text, name, value)?;
+    }
+    Ok(())
+}
+
+/// What the verdict says.
+pub fn shown(alloc: Global, parsed: &Parsed) -> Result<Vec<u8>, AllocError> {
     let mut text = Vec::new(alloc);
     match parsed {
         Parsed::Blank => text.extend_from_slice(b"blank")?,
-        Parsed::Good(head) => show_good(alloc, &mut text, &head)?,
+        Parsed::Good(head) => show_good(alloc, &mut text, head)?,
         Parsed::Bad {
             refusal,
             version,
@@ -58,8 +90,8 @@ pub fn shown(alloc: Global, parsed: Parsed) -> Result<Vec<u8>, AllocError> {
         } => {
             let refusal = format!(in alloc; "{refusal:?} ")?;
             text.extend_from_slice(refusal.as_bytes())?;
-            text.extend_from_slice(shown_version(version))?;
-            if bodyless {
+            text.extend_from_slice(shown_version(*version))?;
+            if *bodyless {
                 text.extend_from_slice(b" bodyless")?;
             }
         }
@@ -79,7 +111,7 @@ pub fn verdicts(alloc: Global, texts: &[&str]) -> Result<(Vec<u8>, Vec<u8>), All
     let head = &bytes[..end];
     let parsed = read_head(alloc, head, MAX_BODY).map_err(|_| AllocError)?;
     let plain = plain::verdict(alloc, head, MAX_BODY)?;
-    Ok((shown(alloc, parsed)?, shown(alloc, plain)?))
+    Ok((shown(alloc, &parsed)?, plain))
 }
 
 // Each row is what stands between the front and the end of a head, and its verdict.
