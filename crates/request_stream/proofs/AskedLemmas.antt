@@ -2,7 +2,7 @@
 use Rattle.std.proofs.Common.{◌≡◌, ℕ, Bool, List, [], ◌∷◌, ◌++◌, length, map, refl, ap, sym, subst}
 use Rattle.std.proofs.Common.{◌∙◌, ◌+◌, length-append}
 use Rattle.std.proofs.lemmas.List.{map-append}
-use Rattle.head_grammar.specs.declared.types.Head.{Head}
+use Rattle.head_grammar.specs.Heads.{Head}
 use Rattle.request_stream.specs.Asks.{AreAskedAs, outline}
 use Rattle.request_stream.specs.Units.{Asked, request}
 use Rattle.spill_buffer.specs.Buffer.{IsToldAs}

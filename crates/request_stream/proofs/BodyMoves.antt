@@ -4,7 +4,7 @@ use Rattle.std.proofs.Common.{length, take, drop, refl, ap, sym, subst, ◌∙�
 use Rattle.std.proofs.lemmas.List.{append-nil, append_cancel_left, take_all, length-take}
 use Rattle.request_stream.specs.Grammar.{Grammar}
 use Rattle.request_stream.specs.declared.types.Limits.{Limits}
-use Rattle.head_grammar.specs.declared.types.Head.{Head}
+use Rattle.head_grammar.specs.Heads.{Head}
 use Rattle.head_grammar.specs.declared.types.Framing.TheVariants.{Fixed, Chunked}
 use Rattle.byte_tables.specs.declared.refusal.Refusal.{Refusal}
 use Rattle.request_stream.specs.declared.state.FixedPart.{FixedPart}

@@ -6,7 +6,7 @@ use Rattle.std.proofs.lemmas.Bool.{le-leb, lt-leb}
 use Rattle.std.proofs.lemmas.List.{take_all, length-drop}
 use Rattle.request_stream.specs.Grammar.{Grammar}
 use Rattle.request_stream.specs.declared.types.Limits.{Limits}
-use Rattle.head_grammar.specs.declared.types.Head.{Head}
+use Rattle.head_grammar.specs.Heads.{Head}
 use Rattle.head_grammar.specs.declared.types.Framing.TheVariants.{Empty, Fixed, Chunked}
 use Rattle.head_grammar.specs.Ends.{head_end}
 use Rattle.chunk_body.specs.Bodies.{whole, partial, coded}

@@ -6,7 +6,7 @@ use Rattle.std.specs.Prelude.{Option, nat_le}
 use Rattle.std.proofs.lemmas.List.{drop-append-le, length-drop, append-nil, nil_from_length}
 use Rattle.request_stream.specs.Grammar.{Grammar}
 use Rattle.request_stream.specs.declared.types.Limits.{Limits}
-use Rattle.head_grammar.specs.declared.types.Head.{Head}
+use Rattle.head_grammar.specs.Heads.{Head}
 use Rattle.head_grammar.specs.declared.types.Parsed.{Parsed}
 use Rattle.head_grammar.specs.declared.types.Parsed.TheVariants.{Blank, Good, Bad}
 use Rattle.head_grammar.specs.Ends.{head_end}

@@ -6,7 +6,7 @@ use Rattle.std.specs.List.{list_any}
 use Rattle.std.proofs.lemmas.List.Folds.{list_any-append}
 use Rattle.head_grammar.specs.declared.types.Framing.{Framing}
 use Rattle.head_grammar.specs.declared.types.Framing.TheVariants.{Empty, Fixed, Chunked}
-use Rattle.head_grammar.specs.declared.types.Head.{Head}
+use Rattle.head_grammar.specs.Heads.{Head}
 use Rattle.head_grammar.specs.declared.types.Parsed.{Parsed}
 use Rattle.head_grammar.specs.declared.types.Parsed.TheVariants.{Blank, Good, Bad}
 use Rattle.request_stream.specs.Reading.{Closes, GoesOn, IsFilling, IsDecoding, KeepsHead, LeadsBy}

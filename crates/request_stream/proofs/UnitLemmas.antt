@@ -11,7 +11,7 @@ use Rattle.std.proofs.lemmas.List.{nil_from_length, take_all}
 use Rattle.std.proofs.Math.Seq.{take-append-add}
 use Rattle.request_stream.specs.Grammar.{Grammar}
 use Rattle.request_stream.specs.declared.types.Limits.{Limits}
-use Rattle.head_grammar.specs.declared.types.Head.{Head}
+use Rattle.head_grammar.specs.Heads.{Head}
 use Rattle.head_grammar.specs.declared.types.Parsed.{Parsed}
 use Rattle.head_grammar.specs.declared.types.Parsed.TheVariants.{Blank, Good, Bad}
 use Rattle.head_grammar.specs.Ends.{head_end}

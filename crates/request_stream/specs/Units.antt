@@ -10,7 +10,7 @@ use Rattle.head_grammar.specs.Ends.{head_end}
 use Rattle.head_grammar.specs.Verdict.{verdict, is_head}
 use Rattle.head_grammar.specs.declared.types.Framing.{Framing}
 use Rattle.head_grammar.specs.declared.types.Framing.TheVariants.{Empty, Fixed, Chunked}
-use Rattle.head_grammar.specs.declared.types.Head.{Head}
+use Rattle.head_grammar.specs.Heads.{Head}
 use Rattle.head_grammar.specs.declared.types.Parsed.{Parsed}
 use Rattle.head_grammar.specs.declared.types.Parsed.TheVariants.{Blank, Good, Bad}
 use Rattle.head_grammar.specs.declared.types.Version.{Version}

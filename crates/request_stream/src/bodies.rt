@@ -82,8 +82,8 @@ fn refuse_body<S: Spill + Drop>(
         ≡ map asks given.old.items ++ refused_body head.now refusal now ∷ []) }
     ensures sizes { OnOk result (sizes given.new.items ≡ sizes given.old.items) }
 {
-    let bodyless = head.method.as_slice() == b"HEAD".as_slice();
-    refuse(refusal, head.version, bodyless, now, given)
+    let bodyless = head.method() == b"HEAD".as_slice();
+    refuse(refusal, head.version(), bodyless, now, given)
 }
 
 /// A body in the chunked coding (RFC 9112, section 7.1).

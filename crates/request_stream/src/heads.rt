@@ -38,7 +38,7 @@ fn begin<S: Spill + Drop, P: Spills<Spill = S>>(
 {
     greet(&head, given)?;
     let body = OverflowBuffer::new(alloc, spills.make(), limits.inbuf_overflow);
-    match head.framing {
+    match head.framing() {
         Framing::Empty => Ok(finish(alloc, head, body, now, given)?),
         Framing::Fixed(left) => {
             if left == 0 {

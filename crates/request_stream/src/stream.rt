@@ -137,8 +137,8 @@ impl<S: Spill + Drop> Stream<S> {
     {
         match &self.state {
             State::Seeking(bytes) => bytes.len() as u64,
-            State::Filling(part) => part.head.size + part.body.memory_len(),
-            State::Decoding(part) => part.head.size + part.body.memory_len(),
+            State::Filling(part) => part.head.size() + part.body.memory_len(),
+            State::Decoding(part) => part.head.size() + part.body.memory_len(),
             State::Over | State::Failed => 0,
         }
     }

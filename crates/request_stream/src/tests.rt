@@ -36,8 +36,8 @@ fn show(text: &mut Vec<u8>, unit: Unit<MemSpill>) -> Option<()> {
         Unit::Request(mut request) => {
             let mut room = [0; 64];
             let count = request.body.front(&mut room).ok()?;
-            text.extend_from_slice(request.head.method.as_slice()).ok()?;
-            text.extend_from_slice(request.head.path.as_slice()).ok()?;
+            text.extend_from_slice(request.head.method()).ok()?;
+            text.extend_from_slice(request.head.path()).ok()?;
             text.push(b' ').ok()?;
             text.extend_from_slice(room.get(..count)?).ok()?;
         }

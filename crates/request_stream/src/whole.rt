@@ -33,7 +33,7 @@ pub(crate) fn greet<S: Spill + Drop>(
         ≡ map asks given.old.items ++ welcome head.now) }
     ensures sizes { OnOk result (sizes given.new.items ≡ sizes given.old.items) }
 {
-    if head.expects {
+    if head.expects() {
         give(Unit::Continue, given)?;
     }
     Ok(())
@@ -86,7 +86,7 @@ pub(crate) fn finish<S: Spill + Drop>(
     ensures holds { IfOk result (λ s. held_of s + sizes given.new.items
         ≡ sizes given.old.items + (head.size + body.in_memory)) }
 {
-    let closes = head.closes;
+    let closes = head.closes();
     let length = body.len();
     let request = Request {
         head,
