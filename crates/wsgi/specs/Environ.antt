@@ -37,7 +37,7 @@ use Rattle.head_grammar.specs.FieldLines.{field_value}
 use Rattle.head_grammar.specs.declared.types.Field.{Field}
 use Rattle.head_grammar.specs.declared.types.Framing.{Framing}
 use Rattle.head_grammar.specs.declared.types.Framing.TheVariants.{Chunked}
-use Rattle.head_grammar.specs.declared.types.Head.{Head}
+use Rattle.head_grammar.specs.Heads.{Head}
 use Rattle.head_grammar.specs.declared.types.Version.{Version}
 use Rattle.head_grammar.specs.declared.types.Version.TheVariants.{Old, New}
 use Rattle.outside.specs.declared.types.Kind.{Kind}

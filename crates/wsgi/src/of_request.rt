@@ -6,7 +6,7 @@ ghost use Rattle.wsgi.specs.Environ as spec;
 
 use crate::of_fields::add_fields;
 use crate::{Environ, Site};
-use head_grammar::{Framing, Head, Version, value_of};
+use head_grammar::{Framing, Head, Version};
 use itoa::Buffer;
 use outside::{Bytes, Peer};
 use proxy_trust::{ProxyFault, Trusted, trust};
@@ -59,11 +59,11 @@ fn add_line(environ: &mut Environ, prefix: &[u8], head: &Head) -> Result<(), All
     ensures { OnOk result (environ.new
         ≡ environ.old ++ spec.line_variables prefix.now head.now) }
 {
-    environ.add(b"REQUEST_METHOD", head.method.as_slice())?;
+    environ.add(b"REQUEST_METHOD", head.method())?;
     environ.add(b"SCRIPT_NAME", prefix)?;
-    environ.add(b"PATH_INFO", path_info(prefix, head.path.as_slice()))?;
-    environ.add(b"REQUEST_URI", head.target.as_slice())?;
-    environ.add(b"QUERY_STRING", head.query.as_slice())
+    environ.add(b"PATH_INFO", path_info(prefix, head.path()))?;
+    environ.add(b"REQUEST_URI", head.target())?;
+    environ.add(b"QUERY_STRING", head.query())
 }
 
 fn add_length(environ: &mut Environ, head: &Head, length: u64) -> Result<(), AllocError>
@@ -72,10 +72,10 @@ fn add_length(environ: &mut Environ, head: &Head, length: u64) -> Result<(), All
         (spec.content_length head.now.framing head.now.fields length)) }
 {
     const NAME: &[u8] = b"CONTENT_LENGTH";
-    match head.framing {
+    match head.framing() {
         Framing::Chunked => environ.add(NAME, Buffer::new().format(length).as_bytes()),
         Framing::Empty | Framing::Fixed(_) => {
-            environ.add_optional(NAME, value_of(head.fields.as_slice(), b"content-length"))
+            environ.add_optional(NAME, head.fields().value_of(b"content-length"))
         }
     }
 }
@@ -84,7 +84,7 @@ fn add_body(environ: &mut Environ, head: &Head, length: u64) -> Result<(), Alloc
     ensures { OnOk result (environ.new
         ≡ environ.old ++ spec.body_variables head.now length) }
 {
-    let content_type = value_of(head.fields.as_slice(), b"content-type");
+    let content_type = head.fields().value_of(b"content-type");
     environ.add_optional(b"CONTENT_TYPE", content_type)?;
     add_length(environ, head, length)
 }
@@ -94,7 +94,7 @@ fn add_server(
     site: &Site,
     peer: &Peer,
     version: Version,
-    told: &Trusted,
+    told: &Trusted<'_>,
 ) -> Result<(), AllocError>
     ensures { OnOk result (environ.new
         ≡ environ.old ++ spec.server_variables site.now peer.now version told.now) }
@@ -112,7 +112,7 @@ fn add_client(
     environ: &mut Environ,
     site: &Site,
     peer: &Peer,
-    told: &Trusted,
+    told: &Trusted<'_>,
 ) -> Result<(), AllocError>
     ensures { OnOk result (environ.new
         ≡ environ.old ++ spec.client_variables site.now peer.now told.now) }
@@ -128,15 +128,15 @@ fn add_client(
 }
 
 // About how long the names and values of all variables are together.
-fn expected_size(site: &Site, peer: &Peer, head: &Head, told: &Trusted) -> usize {
+fn expected_size(site: &Site, peer: &Peer, head: &Head, told: &Trusted<'_>) -> usize {
     let addr = told_or(&told.addr, peer.addr.as_slice()).len();
     let mut size = OWN_SIZE;
     for text in [
-        head.method.len(),
+        head.method().len(),
         site.url_prefix.len(),
-        head.path.len(),
-        head.target.len(),
-        head.query.len(),
+        head.path().len(),
+        head.target().len(),
+        head.query().len(),
         told_or(&told.server_name, site.server_name.as_slice()).len(),
         site.ident.len(),
         addr,
@@ -146,8 +146,8 @@ fn expected_size(site: &Site, peer: &Peer, head: &Head, told: &Trusted) -> usize
         size = size.saturating_add(text);
     }
     for field in told.fields.as_slice() {
-        let name = PREFIX_SIZE.saturating_add(field.name.len());
-        size = size.saturating_add(name).saturating_add(field.value.len());
+        let name = PREFIX_SIZE.saturating_add(field.name().len());
+        size = size.saturating_add(name).saturating_add(field.value().len());
     }
     size
 }
@@ -159,7 +159,7 @@ fn environ_with(
     peer: &Peer,
     head: &Head,
     length: u64,
-    told: &Trusted,
+    told: &Trusted<'_>,
 ) -> Result<Environ, AllocError>
     ensures { IfOk result (λ environ. environ
         ≡ spec.environ_with site.now peer.now head.now length told.now) }
@@ -169,7 +169,7 @@ fn environ_with(
     let mut environ = Environ::with_room(alloc, pairs, size)?;
     add_line(&mut environ, site.url_prefix.as_slice(), head)?;
     add_body(&mut environ, head, length)?;
-    add_server(&mut environ, site, peer, head.version, told)?;
+    add_server(&mut environ, site, peer, head.version(), told)?;
     add_client(&mut environ, site, peer, told)?;
     add_fields(&mut environ, told.fields.as_slice())?;
     Ok(environ)
@@ -188,6 +188,6 @@ pub fn environ(
     requires sound { IsSound site.now.rules }
     ensures { Answers result (spec.environ_of site.now peer.now head.now length) }
 {
-    let told = trust(alloc, &site.rules, peer, head.fields.as_slice())?;
+    let told = trust(alloc, &site.rules, peer, &head.fields())?;
     Ok(environ_with(alloc, site, peer, head, length, &told)?)
 }

@@ -7,4 +7,4 @@ pub returns : goal.returns
 returns c = IfOk-equal _ _ _ _ c.add-5.ensures
     (five _ _ _ _ _ _ c.in_ok-add.ensures c.in_ok-add-2.ensures c.in_ok-add-3.ensures
     c.in_ok-add-4.ensures
-    c.as_slice.ensures refl (search rules) (search rules) (search rules))
+    c.method.ensures refl (search rules) (search rules) (search rules))
