@@ -28,7 +28,7 @@ use Rattle.std.specs.List.{concat, flat_map, list_any}
 use Rattle.std.specs.Option.{option_to_list}
 use Rattle.std.specs.Str.{bytes_eq}
 use Rattle.head_grammar.specs.declared.types.Field.{Field}
-use Rattle.head_grammar.specs.declared.types.Head.{Head}
+use Rattle.head_grammar.specs.Heads.{Head}
 use Rattle.head_grammar.specs.declared.types.Version.{Version}
 use Rattle.head_grammar.specs.declared.types.Version.TheVariants.{Old, New}
 use Rattle.task_core.specs.Errors.{

@@ -16,7 +16,7 @@ use Rattle.std.specs.Prelude.{
 }
 use Rattle.std.specs.List.{flat_map, last_or}
 use Rattle.std.specs.Option.{option_and_then}
-use Rattle.head_grammar.specs.declared.types.Head.{Head}
+use Rattle.head_grammar.specs.Heads.{Head}
 use Rattle.task_core.specs.Answer.{Answer, answer, request_of}
 use Rattle.task_core.specs.Steps.{Ends, GoesBy, is_under_way, remaining, text_of}
 use Rattle.task_core.specs.declared.task.Task.{Task}

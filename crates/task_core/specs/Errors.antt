@@ -16,7 +16,7 @@ use Rattle.std.specs.Prelude.{
 use Rattle.std.specs.Str.{bytes_eq}
 use Rattle.byte_tables.specs.Refusals.{code_of, text_of}
 use Rattle.head_grammar.specs.declared.types.Field.{Field}
-use Rattle.head_grammar.specs.declared.types.Head.{Head}
+use Rattle.head_grammar.specs.Heads.{Head}
 use Rattle.head_grammar.specs.declared.types.Version.{Version}
 use Rattle.imf_fixdate.specs.Date.{year_10000, imf_fixdate}
 use Rattle.outside.specs.declared.types.Kind.{Kind}

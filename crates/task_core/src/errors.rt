@@ -271,8 +271,8 @@ pub fn proxy_answer(
 {
     let answer = ErrorAnswer {
         cause: Cause::Proxy(kind),
-        version: head.version,
-        bodyless: is_head(head.method.as_slice()),
+        version: head.version(),
+        bodyless: is_head(head.method()),
         moment,
     };
     whole(alloc, &answer, ident)

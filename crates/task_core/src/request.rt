@@ -29,9 +29,9 @@ impl Request {
         ensures { IfOk result (λ request. request ≡ request_of head.now moment ident.now) }
     {
         Ok(Request {
-            is_head: is_head(head.method.as_slice()),
-            version: head.version,
-            closes: head.closes,
+            is_head: is_head(head.method()),
+            version: head.version(),
+            closes: head.closes(),
             moment,
             ident: Bytes::from_slice(alloc, ident.as_slice())?,
         })

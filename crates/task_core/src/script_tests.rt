@@ -5,7 +5,7 @@ ghost use Rattle.task_core.specs.Steps.{is_under_way, text_of};
 ghost use Rattle.task_core.specs.declared.wrote.Wrote.{Wrote as AWrote};
 
 use crate::{Task, Wrote};
-use head_grammar::{Field, Framing, Head, Version};
+use head_grammar::{Field, Head, Parsed, head_end, read_head};
 use outside::{Bytes, Items};
 use std::alloc::{AllocError, Global};
 use std::rt::HostRuntime;
@@ -69,29 +69,27 @@ fn step_of(alloc: Global, line: &str) -> Result<Step, AllocError> {
     }
 }
 
-fn version_of(request: &str) -> Version {
-    if request.contains(" 1.0") {
-        Version::Old
-    } else {
-        Version::New
-    }
+// A request: its method and version, and `close` where it closes.
+fn request_text(alloc: Global, request: &str) -> Result<Vec<u8>, AllocError> {
+    let (method, _) = request.split_once(' ').unwrap_or((request, ""));
+    let mut text = Vec::from_slice(alloc, method.as_bytes())?;
+    text.extend_from_slice(b" / HTTP/")?;
+    text.extend_from_slice(if request.contains(" 1.0") { b"1.0" } else { b"1.1" })?;
+    text.extend_from_slice(b"\r\nConnection: ")?;
+    text.extend_from_slice(if request.ends_with(" close") { b"close" } else { b"keep-alive" })?;
+    text.extend_from_slice(b"\r\n\r\n")?;
+    Ok(text)
 }
 
-/// The head of a request: its method and version, and `close` where it closes.
+/// The head of a request, which is written so.
+#[tactic(auto, unfolding(head_grammar::specs::Ends::head_end))]
 pub(crate) fn head_of(alloc: Global, request: &str) -> Result<Head, AllocError> {
-    let (method, _) = request.split_once(' ').unwrap_or((request, ""));
-    Ok(Head {
-        method: bytes_of(alloc, method)?,
-        target: bytes_of(alloc, "/")?,
-        path: bytes_of(alloc, "/")?,
-        query: bytes_of(alloc, "")?,
-        version: version_of(request),
-        fields: Items::from_vec(Vec::new(alloc)),
-        framing: Framing::Empty,
-        expects: false,
-        closes: request.ends_with(" close"),
-        size: 28,
-    })
+    let text = request_text(alloc, request)?;
+    let end = head_end(&text, 0).ok_or(AllocError)?;
+    match read_head(alloc, &text[..end], 1) {
+        Ok(Parsed::Good(head)) => Ok(head),
+        _ => Err(AllocError),
+    }
 }
 
 fn steps_of(alloc: Global, script: &str) -> Result<Vec<Step>, AllocError> {
@@ -170,7 +168,7 @@ fn scripts_are_answered(rt: HostRuntime) -> Result<(), Fail> {
         "GET 1.1 > S 200 OK|Content-Length: 3;W hello = stays HTTP/1.1 200 OK|Content-Length: 3|Server: waitress||hel",
         "GET 1.0 > S 200 OK;W hello = stays HTTP/1.0 200 OK|Connection: Keep-Alive|Content-Length: 5|Server: waitress||hello",
         "GET 1.1 close > S 200 OK;W abcdefghijklmnopqrstuvwxyz = closes HTTP/1.1 200 OK|Connection: close|Content-Length: 26|Server: waitress||abcdefghijklmnopqrstuvwxyz",
-        "head 1.1 > S 200 OK;W hello = stays HTTP/1.1 200 OK|Content-Length: 5|Server: waitress||hello",
+        "HEADER 1.1 > S 200 OK;W hello = stays HTTP/1.1 200 OK|Content-Length: 5|Server: waitress||hello",
         "GET 1.1 > P;S 200 OK = stays HTTP/1.1 200 OK|Content-Length: 0|Server: waitress||",
         "GET 1.0 > S 200 OK;W = stays HTTP/1.0 200 OK|Connection: Keep-Alive|Content-Length: 0|Server: waitress||",
         // In chunks.
