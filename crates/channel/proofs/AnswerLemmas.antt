@@ -3,7 +3,7 @@ use Rattle.std.proofs.Common.{◌≡◌, ℕ, Bool, true, false, IsTrue, List, [
 use Rattle.std.proofs.Common.{Some, None, refl, ap, sym, subst, ◌∙◌}
 use Rattle.std.specs.Prelude.{◌||◌, Ok, Err}
 use Rattle.head_grammar.specs.declared.types.Field.{Field}
-use Rattle.head_grammar.specs.declared.types.Head.{Head}
+use Rattle.head_grammar.specs.Heads.{Head}
 use Rattle.outside.specs.declared.types.Kind.{Kind}
 use Rattle.outside.specs.declared.types.Peer.{Peer}
 use Rattle.request_stream.specs.Units.{continued, refused, request}

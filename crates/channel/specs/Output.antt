@@ -2,7 +2,7 @@
 use Rattle.std.specs.Prelude.{◌≡◌, ℕ, Bool, true, false, List, [], ◌∷◌, ◌++◌, if◌then◌else◌, codes}
 use Rattle.std.specs.Prelude.{length, map, Result, Ok, Err}
 use Rattle.std.specs.List.{list_any}
-use Rattle.head_grammar.specs.declared.types.Head.{Head}
+use Rattle.head_grammar.specs.Heads.{Head}
 use Rattle.outside.specs.declared.types.Kind.{Kind}
 use Rattle.outside.specs.declared.types.Peer.{Peer}
 use Rattle.request_stream.specs.Units.{Asked, continued, refused, request, units}
