@@ -1,5 +1,5 @@
 -- What contracts see of a buffer over a spill.
-use Rattle.std.specs.Prelude.{◌≡◌, ℕ, Bool, IsTrue, List, length, Result, Ok, Err, refl}
+use Rattle.std.specs.Prelude.{◌≡◌, ◌≤◌, ◌<◌, ◌-◌, ℕ, Bool, true, false, IsTrue, List, [], length, take, drop, replicate, Result, Ok, Err, refl}
 use Rattle.std.specs.Coded.{Coded, code_by, coded×, coded_ℕ, coded_list}
 use Rattle.outside.specs.Causes.{Rose}
 use Rattle.spill_buffer.specs.declared.fault.BufferFault.{BufferFault}
@@ -28,3 +28,17 @@ abbrev pub SpillCause : {T : Type 0} → Result T BufferFault → ℕ → ℕ �
 SpillCause (Ok _) before now = now ≡ before
 SpillCause (Err Spill) before now = Rose before now
 SpillCause (Err NoMemory) before now = now ≡ before
+
+-- what stands between two places of a spill, and as many zeros where it doesn't tell
+abbrev pub stored : Bool → List ℕ → ℕ → ℕ → List ℕ
+stored true content start end = drop start (take end content)
+stored false content start end = replicate (end - start) 0
+
+-- bytes in memory, of which some were skipped, or those between two places of a spill
+pub record Keeps (memory : List ℕ) (skipped start end overflow size : ℕ) : Type 0 where
+  pub within : skipped ≤ length memory
+  pub below : length memory - skipped < overflow
+  pub ordered : start ≤ end
+  pub stands : end ≤ size
+  -- never both
+  pub apart : start < end → memory ≡ []

@@ -1,52 +1,84 @@
-//! A list of bytes over a spill. All of them stand in memory so far.
-ghost use Rattle.std.specs.Prelude.{◌≡◌, ◌≢◌, ◌≤◌, ◌<◌, ◌+◌, ◌^◌, ◌↔◌, IsTrue, [], ◌++◌, length, take, drop, min, Err, IfOk, OnOk, OnErr};
+//! A list of bytes, in memory while it is short, and in a spill once it isn't.
+ghost use Rattle.std.specs.Prelude.{
+  ◌≡◌,
+  ◌≢◌,
+  ◌≤◌,
+  ◌<◌,
+  ◌+◌,
+  ◌^◌,
+  ◌↔◌,
+  IsTrue,
+  [],
+  ◌++◌,
+  length,
+  take,
+  drop,
+  min,
+  Err,
+  IfOk,
+  OnOk,
+  OnErr,
+};
 ghost use Rattle.spill_buffer.specs.Buffer.{IsToldAs, SpillCause};
 ghost use Rattle.spill_buffer.specs.declared.fault.BufferFault.TheVariants.{NoMemory};
 
 use crate::BufferFault;
+use crate::room::{clear, close_up, fill};
 use outside::Spill;
 use std::alloc::Global;
 use std::marker::Model;
 
-/// Bytes that are taken in the order in which they were appended.
+/// Bytes that are taken in the order in which they were appended. Either all of them stand in
+/// memory, fewer than `overflow`, or all stand in the spill.
 #[derive(Debug, Drop)]
-pub struct OverflowBuffer<S> {
-    bytes: Vec<u8>,
-    // how many bytes at the front of `bytes` were skipped
+pub struct OverflowBuffer<S: Spill> {
+    memory: Vec<u8>,
+    // how many bytes at the front of `memory` were skipped
     skipped: usize,
+    // the places between which the bytes stand in the spill; none stand there where they are equal
+    start: u64,
+    end: u64,
     overflow: u64,
     spill: S,
 }
 
-impl<S> Model for OverflowBuffer<S> {
-    ghost use Rattle.std.specs.Prelude.{◌≤◌, ◌-◌, length, drop};
-    ghost use Rattle.spill_buffer.specs.Buffer.{Buffered, buffered_coded};
+impl<S: Spill> Model for OverflowBuffer<S> {
+    ghost use Rattle.std.specs.Prelude.{◌-◌, ◌++◌, length, drop};
+    ghost use Rattle.spill_buffer.specs.Buffer.{Buffered, buffered_coded, stored, Keeps};
 
     ghost Value = { Buffered S };
 
     ghost coded = { buffered_coded S.code };
 
-    ghost view = { λ b. record { bytes = drop b.skipped b.bytes.items; in_memory = length b.bytes.items - b.skipped; overflow = b.overflow; spill = b.spill } };
+    ghost view = { λ b. record {
+      bytes = drop b.skipped b.memory.items ++ stored S.tells (S.content b.spill) b.start b.end;
+      in_memory = length b.memory.items - b.skipped;
+      overflow = b.overflow;
+      spill = b.spill;
+    } };
 
-    ghost invariant = { λ b. b.skipped ≤ length b.bytes.items };
+    ghost invariant = { λ b.
+        Keeps b.memory.items b.skipped b.start b.end b.overflow (S.size b.spill) };
 }
 
 impl<S: Spill> OverflowBuffer<S> {
-    /// An empty buffer. From `overflow` bytes on they are to stand in the spill.
+    /// An empty buffer. From `overflow` bytes on they stand in the spill.
     pub fn new(alloc: Global, spill: S, overflow: u64) -> OverflowBuffer<S>
         requires { 1 ≤ overflow }
         ensures { result ≡ record { bytes = []; in_memory = 0; overflow = overflow; spill = spill } }
     {
         OverflowBuffer {
-            bytes: Vec::new(alloc),
+            memory: Vec::new(alloc),
             skipped: 0,
+            start: 0,
+            end: 0,
             overflow,
             spill,
         }
     }
 
     /// Puts bytes behind those that are there, or none of them.
-    pub fn append(&mut self, _alloc: Global, from: &[u8]) -> Result<(), BufferFault>
+    pub fn append(&mut self, from: &[u8]) -> Result<(), BufferFault>
         ensures appended { OnOk result (IsToldAs S.tells self.new.bytes (self.old.bytes ++ from.now)) }
         ensures kept { OnErr result (IsToldAs S.tells self.new.bytes self.old.bytes) }
         ensures cause { SpillCause result (S.faults self.old.spill) (S.faults self.new.spill) }
@@ -56,22 +88,43 @@ impl<S: Spill> OverflowBuffer<S> {
         ensures memory_kept { OnErr result (self.new.in_memory ≡ self.old.in_memory) }
         ensures grows { self.new.in_memory ≤ self.old.in_memory + length from.now }
         ensures overflow { self.new.overflow ≡ self.old.overflow }
+        ensures below { self.new.in_memory < self.new.overflow }
+        ensures spilled { OnOk result (self.old.overflow ≤ length self.new.bytes
+            → self.new.in_memory ≡ 0) }
+        ensures follows { OnOk result (self.old.in_memory < length self.old.bytes
+            → self.new.in_memory ≡ 0) }
+        // What never left memory is known whatever the spill.
+        ensures known { OnOk result (self.new.in_memory ≡ length self.new.bytes
+            → self.new.bytes ≡ self.old.bytes ++ from.now) }
+        ensures stays { OnErr result (self.old.in_memory ≡ length self.old.bytes
+            → self.new.bytes ≡ self.old.bytes) }
     {
-        self.drop_skipped();
-        self.bytes.extend_from_slice(from)?;
+        if self.start < self.end {
+            self.spill.write(self.end, from)?;
+            self.end = self.spill.len();
+            return Ok(());
+        }
+        close_up(&mut self.memory, &mut self.skipped);
+        let length = self.memory.len() - self.skipped + from.len();
+        if (length as u64) < self.overflow {
+            self.memory.extend_from_slice(from)?;
+            return Ok(());
+        }
+        self.start = 0;
+        self.end = 0;
+        fill(&mut self.spill, &self.memory[self.skipped..], from)?;
+        self.end = self.spill.len();
+        clear(&mut self.memory);
+        self.skipped = 0;
         Ok(())
     }
 
-    // Makes room of what was skipped, where that is more than what is left.
-    fn drop_skipped(&mut self)
-        ensures { self.new ≡ self.old }
+    /// The first bytes, as far as they stand in memory: all of them, or none where they stand in
+    /// the spill.
+    pub fn lent(&self) -> &[u8]
+        ensures { result.now ≡ take self.now.in_memory self.now.bytes }
     {
-        let left = self.bytes.len() - self.skipped;
-        if left < self.skipped {
-            self.bytes.copy_within(self.skipped.., 0);
-            self.bytes.truncate(left);
-            self.skipped = 0;
-        }
+        &self.memory[self.skipped..]
     }
 
     /// Gives the first bytes, as many as there is room for. They stay in the buffer. What stands
@@ -84,9 +137,17 @@ impl<S: Spill> OverflowBuffer<S> {
         ensures needs_no_memory { result ≢ Err NoMemory }
         ensures in_memory { self.new.in_memory ≡ self.old.in_memory }
         ensures overflow { self.new.overflow ≡ self.old.overflow }
+        ensures known { self.old.in_memory ≡ length self.old.bytes
+            → IfOk result (λ n. take n into.new ≡ take n self.old.bytes) }
+        ensures stays { self.old.in_memory ≡ length self.old.bytes
+            → self.new.bytes ≡ self.old.bytes }
     {
-        let count = into.len().min(self.bytes.len() - self.skipped);
-        into[..count].copy_from_slice(&self.bytes[self.skipped..self.skipped + count]);
+        if self.start < self.end {
+            let count = (into.len() as u64).min(self.end - self.start) as usize;
+            return Ok(self.spill.read(self.start, &mut into[..count])?);
+        }
+        let count = into.len().min(self.memory.len() - self.skipped);
+        into[..count].copy_from_slice(&self.memory[self.skipped..self.skipped + count]);
         Ok(count)
     }
 
@@ -99,10 +160,16 @@ impl<S: Spill> OverflowBuffer<S> {
         ensures less { self.new.in_memory ≤ self.old.in_memory }
         ensures spill { self.new.spill ≡ self.old.spill }
         ensures overflow { self.new.overflow ≡ self.old.overflow }
+        ensures known { self.old.in_memory ≡ length self.old.bytes
+            → self.new.bytes ≡ drop count self.old.bytes }
     {
+        if self.start < self.end {
+            self.start += count;
+            return;
+        }
         self.skipped += count as usize;
-        if self.skipped == self.bytes.len() {
-            self.bytes.clear();
+        if self.skipped == self.memory.len() {
+            clear(&mut self.memory);
             self.skipped = 0;
         }
     }
@@ -111,7 +178,10 @@ impl<S: Spill> OverflowBuffer<S> {
     pub fn len(&self) -> u64
         ensures { result ≡ length self.now.bytes }
     {
-        (self.bytes.len() - self.skipped) as u64
+        if self.start < self.end {
+            return self.end - self.start;
+        }
+        (self.memory.len() - self.skipped) as u64
     }
 
     pub fn is_empty(&self) -> bool
@@ -125,8 +195,9 @@ impl<S: Spill> OverflowBuffer<S> {
         ensures count { result ≡ self.now.in_memory }
         ensures within { result ≤ length self.now.bytes }
         ensures fits { result < 2 ^ 63 }
+        ensures below { result < self.now.overflow }
     {
-        (self.bytes.len() - self.skipped) as u64
+        (self.memory.len() - self.skipped) as u64
     }
 
     /// Drops the bytes, and gives the spill back.
@@ -134,8 +205,10 @@ impl<S: Spill> OverflowBuffer<S> {
         ensures { result ≡ self.spill }
     {
         let OverflowBuffer {
-            bytes: _,
+            memory: _,
             skipped: _,
+            start: _,
+            end: _,
             overflow: _,
             spill,
         } = self;

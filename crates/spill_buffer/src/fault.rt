@@ -1,6 +1,7 @@
 //! Why a call of a buffer failed.
 ghost use Rattle.std.specs.Prelude.{◌≡◌};
 
+use outside::Failed;
 use std::alloc::AllocError;
 
 #[derive(Clone, Copy, Debug, PartialEq, Eq)]
@@ -18,5 +19,16 @@ impl From<AllocError> for BufferFault {
 
     fn from(_: AllocError) -> BufferFault {
         BufferFault::NoMemory
+    }
+}
+
+impl From<Failed> for BufferFault {
+    ghost use Rattle.std.specs.Prelude.{◌≡◌};
+    ghost use Rattle.spill_buffer.specs.declared.fault.BufferFault.TheVariants.{Spill};
+
+    ghost from_gives = { λ _ fault. fault ≡ Spill };
+
+    fn from(_: Failed) -> BufferFault {
+        BufferFault::Spill
     }
 }
