@@ -1,5 +1,6 @@
 //! The application that gives the body of a request back.
-ghost use Rattle.std.specs.Prelude.{◌≡◌, ◌<◌, ◌^◌, IsTrue, length, take, drop, IfOk, OnOk, OnErr};
+ghost use Rattle.std.specs.Prelude.{◌≡◌, ◌<◌, ◌^◌, IsTrue, length, take, drop};
+ghost use Rattle.std.specs.Prelude.{IfOk, IfSome, IsSome, OnOk, OnErr};
 ghost use Rattle.spill_buffer.specs.Buffer.{IsToldAs};
 ghost use Rattle.wsgi.specs.Run.{RunCause};
 ghost use Rattle.apps.specs.Echo.{echo_script, echo_start};
@@ -18,7 +19,7 @@ pub struct Echo;
 
 /// A response of `Echo`.
 #[derive(Debug, Drop)]
-pub struct EchoRun<S> {
+pub struct EchoRun<S: Spill> {
     start: Option<Step>,
     body: OverflowBuffer<S>,
 }
@@ -32,16 +33,19 @@ impl<S: Spill + Send + Drop> App<S> for Echo {
 
     ghost run_tells = { λ told. told };
 
-    fn open(
+    fn begin(
         &self,
         alloc: Global,
         environ: Environ,
-        body: OverflowBuffer<S>,
+        body: &mut Option<OverflowBuffer<S>>,
     ) -> Result<EchoRun<S>, NoMemory>
-        ensures script { IsTrue S.tells → IfOk result (λ run.
-            rest_of run.start run.body.bytes ≡ echo_script environ body.bytes) }
-        ensures spill { IfOk result (λ run. S.faults run.body.spill ≡ S.faults body.spill) }
+        requires body { IsSome body.old }
+        ensures script { IsTrue S.tells → IfSome body.old (λ body. IfOk result (λ run.
+            rest_of run.start run.body.bytes ≡ echo_script environ body.bytes)) }
+        ensures spill { IfSome body.old (λ body. IfOk result (λ run.
+            S.faults run.body.spill ≡ S.faults body.spill)) }
     {
+        let body = body.take().unwrap();
         match start(alloc, &environ, body.len()) {
             Ok(start) => Ok(EchoRun {
                 start: Some(start),

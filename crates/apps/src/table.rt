@@ -12,6 +12,8 @@ ghost use Rattle.std.specs.Prelude.{
   find,
   option_copied,
   IfOk,
+  IfSome,
+  IsSome,
   Err,
 };
 ghost use Rattle.apps.specs.Table.{table_of, IsOrLacksMemory};
@@ -88,16 +90,19 @@ impl<S: Spill + Send + Drop> App<S> for TableApp {
 
     ghost run_tells = { λ told. told };
 
-    fn open(
+    fn begin(
         &self,
         alloc: Global,
         environ: Environ,
-        body: OverflowBuffer<S>,
+        body: &mut Option<OverflowBuffer<S>>,
     ) -> Result<TableRun<S>, NoMemory>
-        ensures script { IfOk result (λ run. drop run.given (script_for run.row) ≡ table_script
-            self.now environ body.bytes) }
-        ensures spill { IfOk result (λ run. S.faults run.spill ≡ S.faults body.spill) }
+        requires body { IsSome body.old }
+        ensures script { IfSome body.old (λ body. IfOk result (λ run.
+            drop run.given (script_for run.row) ≡ table_script self.now environ body.bytes)) }
+        ensures spill { IfSome body.old (λ body. IfOk result (λ run.
+            S.faults run.spill ≡ S.faults body.spill)) }
     {
+        let body = body.take().unwrap();
         let method = variable(&environ, b"REQUEST_METHOD");
         let path = variable(&environ, b"PATH_INFO");
         let row = match self.row_for(method, path) {

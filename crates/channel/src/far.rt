@@ -34,7 +34,7 @@ fn cause_of(fault: BufferFault) -> Cause
 
 // What a turn of the answering side leaves.
 #[derive(Drop)]
-pub(crate) struct Turned<R, S> {
+pub(crate) struct Turned<R, S: Spill> {
     pub(crate) progress: Progress,
     pub(crate) writing: Writing<R>,
     pub(crate) entry: RightEntry<S>,
@@ -134,7 +134,6 @@ fn stop_by<A: App<S>, S: Spill + Send + Drop>(
 
 // The output takes a text, or the answer breaks off.
 fn write<A: App<S>, S: Spill + Send + Drop>(
-    alloc: Global,
     text: &[u8],
     ended: Option<bool>,
     state: &mut Shared<A, A::Run, S>,
@@ -147,7 +146,7 @@ fn write<A: App<S>, S: Spill + Send + Drop>(
         A.Run.faults A.Run.spill_faults) A.Run.rest
         e.0 (state_of state.old) (state_of state.new) e.1) }
 {
-    match state.add(alloc, text, ended) {
+    match state.add(text, ended) {
         Ok(()) => {
             let about = (text, ended);
             Ok(tell::<_, _, Written>(&about))
@@ -163,7 +162,6 @@ fn write<A: App<S>, S: Spill + Send + Drop>(
 /// Adds the text that waits, if one does. What is under way behind it stays, also where it breaks
 /// off.
 pub(crate) fn add_text<A: App<S>, S: Spill + Send + Drop>(
-    alloc: Global,
     writing: Writing<A::Run>,
     state: &mut Shared<A, A::Run, S>,
 ) -> Turned<A::Run, S>
@@ -181,7 +179,7 @@ pub(crate) fn add_text<A: App<S>, S: Spill + Send + Drop>(
     ensures writing { result.writing ≡ without_text writing }
 {
     match writing {
-        Writing::Waits(waiting) => match write(alloc, waiting.text.as_slice(), None, state) {
+        Writing::Waits(waiting) => match write(waiting.text.as_slice(), None, state) {
             Ok(entry) => Turned {
                 progress: Progress::More,
                 writing: Writing::Scripted(waiting.script),
@@ -193,7 +191,7 @@ pub(crate) fn add_text<A: App<S>, S: Spill + Send + Drop>(
                 entry,
             },
         },
-        Writing::Last(text, closes) => match write(alloc, text.as_slice(), Some(closes), state) {
+        Writing::Last(text, closes) => match write(text.as_slice(), Some(closes), state) {
             Ok(entry) => Turned {
                 progress: Progress::More,
                 writing: Writing::Idle,
@@ -241,7 +239,7 @@ pub(crate) fn go_on<A: App<S>, S: Spill + Send + Drop>(
     ensures settled { IsTrue (is_settled result.writing) }
 {
     match step(alloc, writing) {
-        Ok(writing) => add_text(alloc, writing, state),
+        Ok(writing) => add_text(writing, state),
         Err(stop) => stop_by(state, stop),
     }
 }

@@ -130,12 +130,7 @@ impl<A, R: Drop, S: Spill + Drop> Shared<A, R, S> {
 
     /// Puts a text of the current unit behind the output. Where it is the last one of it: whether
     /// the connection closes.
-    pub(crate) fn add(
-        &mut self,
-        alloc: Global,
-        text: &[u8],
-        ended: Option<bool>,
-    ) -> Result<(), BufferFault>
+    pub(crate) fn add(&mut self, text: &[u8], ended: Option<bool>) -> Result<(), BufferFault>
         requires { IsTrue (is_some self.old.output) }
         ensures added { OnOk result (Adds S.tells text.now ended (state_of self.old) (state_of
             self.new)) }
@@ -145,7 +140,7 @@ impl<A, R: Drop, S: Spill + Drop> Shared<A, R, S> {
         let Some(output) = &mut self.output else {
             unreachable!()
         };
-        match output.append(alloc, text) {
+        match output.append(text) {
             Ok(()) => {}
             Err(fault) => return Err(fault),
         }

@@ -1,7 +1,7 @@
 //! What a turn did, as it is told.
 use crate::acts::{LeftAct, RightAct};
 use crate::types::Cause;
-use outside::{End, Tells, Told};
+use outside::{End, Spill, Tells, Told};
 use request_stream::Unit;
 use std::collections::LinkedList;
 use std::snapshot::Snapshot;
@@ -12,13 +12,13 @@ pub type RightEntry<S> = Told<LinkedList<RightAct<S>>>;
 
 pub(crate) struct Looked;
 
-impl<S> Tells<(), LinkedList<LeftAct<S>>> for Looked {
+impl<S: Spill> Tells<(), LinkedList<LeftAct<S>>> for Looked {
     ghost use Rattle.std.specs.Prelude.{[]};
 
     ghost told = { λ _. [] };
 }
 
-impl<S> Tells<(), LinkedList<RightAct<S>>> for Looked {
+impl<S: Spill> Tells<(), LinkedList<RightAct<S>>> for Looked {
     ghost use Rattle.std.specs.Prelude.{[]};
 
     ghost told = { λ _. [] };
@@ -26,7 +26,7 @@ impl<S> Tells<(), LinkedList<RightAct<S>>> for Looked {
 
 pub(crate) struct Puts;
 
-impl<'a, S> Tells<(&'a Vec<Unit<S>>, u64), LinkedList<LeftAct<S>>> for Puts {
+impl<'a, S: Spill> Tells<(&'a Vec<Unit<S>>, u64), LinkedList<LeftAct<S>>> for Puts {
     ghost use Rattle.std.specs.Prelude.{[], ◌∷◌};
     ghost use Rattle.channel.specs.declared.acts.LeftAct.TheVariants.{Put};
 
@@ -35,7 +35,7 @@ impl<'a, S> Tells<(&'a Vec<Unit<S>>, u64), LinkedList<LeftAct<S>>> for Puts {
 
 pub(crate) struct Drains;
 
-impl<'a, S> Tells<&'a [u8], LinkedList<LeftAct<S>>> for Drains {
+impl<'a, S: Spill> Tells<&'a [u8], LinkedList<LeftAct<S>>> for Drains {
     ghost use Rattle.std.specs.Prelude.{[], ◌∷◌};
     ghost use Rattle.channel.specs.declared.acts.LeftAct.TheVariants.{Drained};
 
@@ -44,7 +44,7 @@ impl<'a, S> Tells<&'a [u8], LinkedList<LeftAct<S>>> for Drains {
 
 pub(crate) struct Kills;
 
-impl<S> Tells<End, LinkedList<LeftAct<S>>> for Kills {
+impl<S: Spill> Tells<End, LinkedList<LeftAct<S>>> for Kills {
     ghost use Rattle.std.specs.Prelude.{[], ◌∷◌};
     ghost use Rattle.channel.specs.declared.acts.LeftAct.TheVariants.{Killed};
 
@@ -52,7 +52,7 @@ impl<S> Tells<End, LinkedList<LeftAct<S>>> for Kills {
 }
 
 // A spill failed, and what broke is taken out at once.
-impl<S> Tells<End, LinkedList<LeftAct<S>>> for Breaks {
+impl<S: Spill> Tells<End, LinkedList<LeftAct<S>>> for Breaks {
     ghost use Rattle.std.specs.Prelude.{[], ◌∷◌};
     ghost use Rattle.channel.specs.declared.acts.LeftAct.TheVariants.{Buried, Killed};
 
@@ -62,13 +62,14 @@ impl<S> Tells<End, LinkedList<LeftAct<S>>> for Breaks {
 // More acts of the same turn.
 pub(crate) struct Then;
 
-impl<S> Tells<(Snapshot<LeftEntry<S>>, Snapshot<LeftEntry<S>>), LinkedList<LeftAct<S>>> for Then {
+impl<S: Spill> Tells<(Snapshot<LeftEntry<S>>, Snapshot<LeftEntry<S>>), LinkedList<LeftAct<S>>>
+    for Then {
     ghost use Rattle.std.specs.Prelude.{◌++◌};
 
     ghost told = { λ x. x.0.value.value ++ x.1.value.value };
 }
 
-impl<S> Tells<(Snapshot<RightEntry<S>>, Snapshot<RightEntry<S>>), LinkedList<RightAct<S>>>
+impl<S: Spill> Tells<(Snapshot<RightEntry<S>>, Snapshot<RightEntry<S>>), LinkedList<RightAct<S>>>
     for Then {
     ghost use Rattle.std.specs.Prelude.{◌++◌};
 
@@ -77,7 +78,7 @@ impl<S> Tells<(Snapshot<RightEntry<S>>, Snapshot<RightEntry<S>>), LinkedList<Rig
 
 pub(crate) struct Buried;
 
-impl<S> Tells<(), LinkedList<LeftAct<S>>> for Buried {
+impl<S: Spill> Tells<(), LinkedList<LeftAct<S>>> for Buried {
     ghost use Rattle.std.specs.Prelude.{[], ◌∷◌};
     ghost use Rattle.channel.specs.declared.acts.LeftAct.TheVariants.{Buried};
 
@@ -86,7 +87,7 @@ impl<S> Tells<(), LinkedList<LeftAct<S>>> for Buried {
 
 pub(crate) struct Begins;
 
-impl<S> Tells<Unit<S>, LinkedList<RightAct<S>>> for Begins {
+impl<S: Spill> Tells<Unit<S>, LinkedList<RightAct<S>>> for Begins {
     ghost use Rattle.std.specs.Prelude.{[], ◌∷◌};
     ghost use Rattle.channel.specs.declared.acts.RightAct.TheVariants.{Began};
 
@@ -95,7 +96,7 @@ impl<S> Tells<Unit<S>, LinkedList<RightAct<S>>> for Begins {
 
 pub(crate) struct Written;
 
-impl<'a, S> Tells<(&'a [u8], Option<bool>), LinkedList<RightAct<S>>> for Written {
+impl<'a, S: Spill> Tells<(&'a [u8], Option<bool>), LinkedList<RightAct<S>>> for Written {
     ghost use Rattle.std.specs.Prelude.{[], ◌∷◌};
     ghost use Rattle.channel.specs.declared.acts.RightAct.TheVariants.{Wrote};
 
@@ -104,7 +105,7 @@ impl<'a, S> Tells<(&'a [u8], Option<bool>), LinkedList<RightAct<S>>> for Written
 
 pub(crate) struct Breaks;
 
-impl<S> Tells<Cause, LinkedList<RightAct<S>>> for Breaks {
+impl<S: Spill> Tells<Cause, LinkedList<RightAct<S>>> for Breaks {
     ghost use Rattle.std.specs.Prelude.{[], ◌∷◌};
     ghost use Rattle.channel.specs.declared.acts.RightAct.TheVariants.{Broke};
 

@@ -31,14 +31,14 @@ use std::snapshot::Snapshot;
 use wsgi::{App, AppRun, Site};
 
 /// What both sides did, for contracts alone. No value of it is made.
-pub struct Acts<S> {
+pub struct Acts<S: Spill> {
     pub left: LinkedList<LeftEntry<S>>,
     pub right: LinkedList<RightEntry<S>>,
 }
 
 pub(crate) struct NoActs;
 
-impl<S> Tells<(), Acts<S>> for NoActs {
+impl<S: Spill> Tells<(), Acts<S>> for NoActs {
     ghost use Rattle.std.specs.Prelude.{[]};
 
     ghost told = { λ _. record { left = []; right = [] } };
@@ -46,7 +46,7 @@ impl<S> Tells<(), Acts<S>> for NoActs {
 
 struct AddsLeft;
 
-impl<S> Tells<(Snapshot<Told<Acts<S>>>, Snapshot<LeftEntry<S>>), Acts<S>> for AddsLeft {
+impl<S: Spill> Tells<(Snapshot<Told<Acts<S>>>, Snapshot<LeftEntry<S>>), Acts<S>> for AddsLeft {
     ghost use Rattle.std.specs.Prelude.{[], ◌∷◌, ◌++◌};
 
     ghost told = { λ x. record {
@@ -58,7 +58,7 @@ impl<S> Tells<(Snapshot<Told<Acts<S>>>, Snapshot<LeftEntry<S>>), Acts<S>> for Ad
 
 struct AddsRight;
 
-impl<S> Tells<(Snapshot<Told<Acts<S>>>, Snapshot<RightEntry<S>>), Acts<S>> for AddsRight {
+impl<S: Spill> Tells<(Snapshot<Told<Acts<S>>>, Snapshot<RightEntry<S>>), Acts<S>> for AddsRight {
     ghost use Rattle.std.specs.Prelude.{[], ◌∷◌, ◌++◌};
 
     ghost told = { λ x. record {

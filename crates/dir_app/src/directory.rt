@@ -1,5 +1,6 @@
 //! A directory of files.
-ghost use Rattle.std.specs.Prelude.{◌≡◌, ◌&&◌, None, Some, IsTrue, IsUtf8, IfOk, string_bytes};
+ghost use Rattle.std.specs.Prelude.{◌≡◌, ◌&&◌, None, Some, IsTrue, IsUtf8, string_bytes};
+ghost use Rattle.std.specs.Prelude.{IfOk, IfSome, IsSome};
 ghost use Rattle.std.specs.Option.{option_map_or};
 ghost use Rattle.dir_app.specs.DirLaws.{second_tells};
 ghost use Rattle.dir_app.specs.DirScript.{dir_script};
@@ -45,23 +46,26 @@ impl<'a, T: Tree, S: Spill + Send + Drop> App<S> for DirApp<'a, T> {
 
     ghost run_tells = { λ told. second_tells T.tells T.Entry.tells told };
 
-    fn open(
+    fn begin(
         &self,
         alloc: Global,
         environ: Environ,
-        body: OverflowBuffer<S>,
+        body: &mut Option<OverflowBuffer<S>>,
     ) -> Result<DirRun<T::Entry, S>, NoMemory>
-        ensures script { IsTrue (T.tells && T.Entry.tells) →
+        requires body { IsSome body.old }
+        ensures script { IsTrue (T.tells && T.Entry.tells) → IfSome body.old (λ body.
             IfOk result (λ run. answer_by text.rest_of
             (λ steps. file.file_rest steps.bodyless steps.media.now (T.Entry.file steps.entry)
             steps.progress) run.answer
             ≡ dir_script (T.files self.now.tree.now) (string_bytes self.now.root) environ
-            body.bytes) }
+            body.bytes)) }
         ensures faultless { IfOk result (λ run.
             option_map_or T.Entry.faults (answer_by (λ _. None) (λ steps. Some steps.entry)
             run.answer) 0 ≡ 0) }
-        ensures spill { IfOk result (λ run. S.faults run.spill ≡ S.faults body.spill) }
+        ensures spill { IfSome body.old (λ body. IfOk result (λ run.
+            S.faults run.spill ≡ S.faults body.spill)) }
     {
+        let body = body.take().unwrap();
         let Ok(asked) = asked_for(alloc, self.root.as_str(), &environ) else {
             return Err(NoMemory);
         };

@@ -19,7 +19,6 @@ use std::alloc::{AllocError, Global};
 
 // Bytes behind those of a body.
 fn put<S: Spill + Drop>(
-    alloc: Global,
     mut body: OverflowBuffer<S>,
     from: &[u8],
 ) -> Result<OverflowBuffer<S>, StreamFault<S>>
@@ -27,7 +26,7 @@ fn put<S: Spill + Drop>(
     ensures memory { IfOk result (λ b. b.in_memory ≤ body.in_memory + length from.now) }
     ensures cause { IfErr result (λ f. IsCaused S.faults f) }
 {
-    match body.append(alloc, from) {
+    match body.append(from) {
         Ok(()) => Ok(body),
         Err(BufferFault::Spill) => Err(StreamFault::Spill(body.into_spill())),
         Err(BufferFault::NoMemory) => Err(StreamFault::NoMemory),
@@ -60,7 +59,7 @@ pub(crate) fn fill<S: Spill + Drop>(
     let _ = limits;
     let FixedPart { head, body, left } = part;
     let taken = (piece.len() as u64).min(left) as usize;
-    let body = put(alloc, body, &piece[..taken])?;
+    let body = put(body, &piece[..taken])?;
     let left = left - taken as u64;
     if left == 0 {
         let state = finish(alloc, head, body, now, given)?;
@@ -118,7 +117,7 @@ pub(crate) fn decode<S: Spill + Drop>(
     } = part;
     match chunks.feed(piece, &mut room) {
         Fed::More => {
-            let body = put(alloc, body, room.as_slice())?;
+            let body = put(body, room.as_slice())?;
             room.clear();
             let state = State::Decoding(CodedPart {
                 head,
@@ -132,7 +131,7 @@ pub(crate) fn decode<S: Spill + Drop>(
             })
         }
         Fed::Done(taken) => {
-            let body = put(alloc, body, room.as_slice())?;
+            let body = put(body, room.as_slice())?;
             let state = finish(alloc, head, body, now, given)?;
             Ok(Step { state, taken })
         }

@@ -6,13 +6,12 @@ use std::test::Fail;
 
 // Appends, looks at the front and skips; answers how many bytes stand in memory.
 fn passed(
-    alloc: Global,
     buffer: &mut OverflowBuffer<MemSpill>,
     appended: &[u8],
     into: &mut [u8],
     skipped: u64,
 ) -> Result<u64, BufferFault> {
-    buffer.append(alloc, appended)?;
+    buffer.append(appended)?;
     buffer.front(into)?;
     let whole = buffer.len();
     buffer.skip(whole.min(skipped));
@@ -31,7 +30,7 @@ fn bytes_come_out_in_order(rt: HostRuntime) -> Result<(), Fail> {
     ];
     for (appended, front, skipped, left) in rows {
         let mut into = [0; 3];
-        let Ok(memory) = passed(alloc, &mut buffer, appended, &mut into, skipped) else {
+        let Ok(memory) = passed(&mut buffer, appended, &mut into, skipped) else {
             return Err(Fail::from("a fault"));
         };
         assert_eq!(rt; into.as_slice(), front);

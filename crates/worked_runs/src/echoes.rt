@@ -41,7 +41,7 @@ fn a_body_comes_back_in_pieces(rt: HostRuntime) -> Result<(), Fail> {
     let alloc = rt.alloc();
     let mut spills = MemSpills::new(alloc, Vec::new(alloc));
     let mut body = OverflowBuffer::new(alloc, spills.make(), 524_288);
-    assert!(rt; body.append(alloc, &[b'a'; 40_000]).is_ok());
+    assert!(rt; body.append(&[b'a'; 40_000]).is_ok());
     let Ok(mut run) = Echo.open(alloc, Environ::of(alloc, &[])?, body) else {
         return Err(Fail::from("no memory"));
     };
