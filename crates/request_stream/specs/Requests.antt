@@ -1,10 +1,10 @@
 -- A request as contracts see it, and how a proof tells two of them apart.
 use Rattle.std.specs.Prelude.{◌≡◌, ℕ, Bool, true, false, List, Option, Some, None, refl}
 use Rattle.std.specs.Coded.{Coded, code_by, coded×, coded_ℕ, coded_bool, coded_list, coded_option}
+use Rattle.head_grammar.specs.Heads.{Head}
 use Rattle.head_grammar.specs.declared.types.Field.{Field}
 use Rattle.head_grammar.specs.declared.types.Framing.{Framing}
 use Rattle.head_grammar.specs.declared.types.Framing.TheVariants.{Empty, Fixed, Chunked}
-use Rattle.head_grammar.specs.declared.types.Head.{Head}
 use Rattle.head_grammar.specs.declared.types.Version.{Version}
 use Rattle.head_grammar.specs.declared.types.Version.TheVariants.{Old, New}
 use Rattle.spill_buffer.specs.Buffer.{Buffered, buffered_coded}
@@ -58,7 +58,8 @@ field_coded = code_by (List ℕ × List ℕ) (coded× bytes_coded bytes_coded)
     (λ f. (f.name, f.value)) (λ p. record { name = p.0; value = p.1 }) (λ _. refl)
 
 abbrev HeadParts : Type 0
-HeadParts = (List ℕ × (List ℕ × (List ℕ × List ℕ))) × ((Version × (List Field × Framing)) × (Bool × (Bool × ℕ)))
+HeadParts = (List ℕ × (List ℕ × (List ℕ × List ℕ)))
+    × ((Version × (List Field × Framing)) × (Bool × (Bool × ℕ)))
 
 abbrev head_coded : Coded Head
 head_coded = code_by HeadParts
