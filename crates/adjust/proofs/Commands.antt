@@ -1,62 +1,16 @@
 -- What the words ask for keeps the ranges, and what is wrong with them is never want of memory.
-use Rattle.std.proofs.Common.{
-  ◌≡◌,
-  ℕ,
-  Bool,
-  true,
-  false,
-  List,
-  [],
-  ◌∷◌,
-  None,
-  Some,
-  Ok,
-  Err,
-  refl,
-  cond,
-  codes,
-}
-use Rattle.std.specs.Prelude.{
-  ◌≢◌,
-  Option,
-  Result,
-  IfOk,
-  IfSome,
-  MatchResult,
-  nat_le,
-  ◌&&◌,
-  is_some,
-  slice_get,
-  option_map,
-  option_and_then,
-}
+use Rattle.std.proofs.Common.{◌≡◌, ℕ, Bool, true, false, List, [], ◌∷◌, None, Some, Ok, Err, refl}
+use Rattle.std.proofs.Common.{cond, codes}
+use Rattle.std.specs.Prelude.{◌≢◌, Option, Result, IfOk, IfSome, MatchResult, nat_le, ◌&&◌, is_some}
+use Rattle.std.specs.Prelude.{slice_get, option_map, option_and_then}
 use Rattle.std.specs.List.{cons_option, filter_map}
 use Rattle.std.specs.Option.{option_map_or, option_or}
 use Rattle.std.specs.Str.{bytes_eq}
 use Rattle.clap.specs.Words.{Row as Found}
-use Rattle.adjust.specs.Command.{
-  adjustments_of,
-  application,
-  application_of,
-  asked,
-  command,
-  decided,
-  first_fault,
-  first_value_fault,
-  fits,
-  form_fault,
-  is_given,
-  is_on,
-  named_by,
-  number_at,
-  operand,
-  place_of,
-  range_fault,
-  row_fault,
-  served,
-  value,
-  value_fault,
-}
+use Rattle.adjust.specs.Command.{adjustments_of, application, application_of, asked, command}
+use Rattle.adjust.specs.Command.{decided, first_fault, first_value_fault, fits, form_fault}
+use Rattle.adjust.specs.Command.{is_given, is_on, named_by, number_at, operand, place_of}
+use Rattle.adjust.specs.Command.{range_fault, row_fault, served, value, value_fault}
 use Rattle.adjust.specs.CommandLine.{are_taken, given}
 use Rattle.adjust.specs.Lists.{bad_entry, parts}
 use Rattle.adjust.specs.Options.{option_rows}

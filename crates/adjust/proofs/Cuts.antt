@@ -1,26 +1,6 @@
 -- The parts of a text that is cut at each separator.
-use Rattle.std.proofs.Common.{
-  ◌≡◌,
-  ◌<◌,
-  ◌+◌,
-  ◌-◌,
-  ◌∙◌,
-  ℕ,
-  Bool,
-  List,
-  [],
-  ◌∷◌,
-  length,
-  take,
-  drop,
-  None,
-  Some,
-  refl,
-  ap,
-  sym,
-  cond,
-  arith,
-}
+use Rattle.std.proofs.Common.{◌≡◌, ◌<◌, ◌+◌, ◌-◌, ◌∙◌, ℕ, Bool, List, [], ◌∷◌, length, take, drop}
+use Rattle.std.proofs.Common.{None, Some, refl, ap, sym, cond, arith}
 use Rattle.std.specs.Prelude.{position}
 use Rattle.std.specs.List.{filter, slice_split}
 use Rattle.std.proofs.lemmas.Bool.{lt-ltb}

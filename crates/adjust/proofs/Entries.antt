@@ -1,30 +1,6 @@
 -- Which entry is bad behind some good ones.
-use Rattle.std.proofs.Common.{
-  ◌≡◌,
-  ◌<◌,
-  ◌+◌,
-  ◌-◌,
-  ◌∙◌,
-  ℕ,
-  suc,
-  zero,
-  true,
-  false,
-  List,
-  [],
-  ◌∷◌,
-  length,
-  take,
-  None,
-  Some,
-  refl,
-  ap,
-  ap₂,
-  sym,
-  cond,
-  arith,
-  rules,
-}
+use Rattle.std.proofs.Common.{◌≡◌, ◌<◌, ◌+◌, ◌-◌, ◌∙◌, ℕ, suc, zero, true, false, List, [], ◌∷◌}
+use Rattle.std.proofs.Common.{length, take, None, Some, refl, ap, ap₂, sym, cond, arith, rules}
 use Rattle.std.specs.Prelude.{Option, nat_lt, ◌==◌, ◌||◌}
 use Rattle.std.specs.List.{before_last, prefix_len}
 use Rattle.std.proofs.lemmas.Bool.Decides.{nat_tests}

@@ -1,23 +1,6 @@
 -- A number that a u64 has, or has not.
-use Rattle.std.proofs.Common.{
-  ◌≡◌,
-  ◌∙◌,
-  ◌<◌,
-  ◌≤◌,
-  ◌+◌,
-  ◌*◌,
-  ℕ,
-  List,
-  length,
-  take,
-  get_or,
-  None,
-  Some,
-  ap,
-  sym,
-  cond,
-  arith,
-}
+use Rattle.std.proofs.Common.{◌≡◌, ◌∙◌, ◌<◌, ◌≤◌, ◌+◌, ◌*◌, ℕ, List, length, take, get_or, None}
+use Rattle.std.proofs.Common.{Some, ap, sym, cond, arith}
 use Rattle.std.specs.Prelude.{nat_lt}
 use Rattle.std.specs.Char.{digit_value}
 use Rattle.std.specs.Str.Parse.{digits_value}

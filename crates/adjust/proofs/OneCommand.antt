@@ -1,54 +1,16 @@
 -- The command that the options make one after the other, and what clap says of it.
-use Rattle.std.proofs.Common.{
-  ◌≡◌,
-  ◌∙◌,
-  ◌<◌,
-  ◌+◌,
-  ℕ,
-  true,
-  false,
-  List,
-  [],
-  ◌∷◌,
-  ◌++◌,
-  length,
-  map,
-  take,
-  get_or,
-  refl,
-  ap,
-  sym,
-  add-one,
-  append_assoc,
-  rules,
-  codes,
-}
+use Rattle.std.proofs.Common.{◌≡◌, ◌∙◌, ◌<◌, ◌+◌, ℕ, true, false, List, [], ◌∷◌, ◌++◌, length, map}
+use Rattle.std.proofs.Common.{take, get_or, refl, ap, sym, add-one, append_assoc, rules, codes}
 use Rattle.std.proofs.Math.Seq.{take-length, take-suc}
 use Rattle.std.proofs.lemmas.List.{map-append}
-use Rattle.clap.specs.Words.{
-  App,
-  IsAmong,
-  Kinds,
-  Row as Found,
-  Rule,
-  Text,
-  fault_of,
-  is_simple,
-  is_simple_and_free,
-  matches_of,
-}
+use Rattle.clap.specs.Words.{App, IsAmong, Kinds, Row as Found, Rule, Text, fault_of, is_simple}
+use Rattle.clap.specs.Words.{is_simple_and_free, matches_of}
 use Rattle.clap.specs.Walk.{is_empty}
 use Rattle.clap.specs.declared.error.kind.ErrorKind.{ErrorKind}
 use Rattle.clap.proofs.OnLiterals.{clap_on_literals}
 use Rattle.adjust.specs.declared.options.OptionRow.{OptionRow}
-use Rattle.adjust.specs.CommandLine.{
-  are_taken,
-  command_line,
-  command_with,
-  given,
-  operand_rule,
-  option_rule,
-}
+use Rattle.adjust.specs.CommandLine.{are_taken, command_line, command_with, given, operand_rule}
+use Rattle.adjust.specs.CommandLine.{option_rule}
 use Rattle.adjust.specs.Options.{option_rows, row_of}
 
 abbrev pub rules_so_far : List OptionRow → ℕ → List Rule

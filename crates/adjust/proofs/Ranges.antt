@@ -1,76 +1,20 @@
 -- Values without a fault are in their ranges.
-use Rattle.std.proofs.Common.{
-  ◌≡◌,
-  ◌∙◌,
-  ◌<◌,
-  ◌≤◌,
-  ◌+◌,
-  ℕ,
-  suc,
-  zero,
-  Bool,
-  true,
-  false,
-  List,
-  [],
-  ◌∷◌,
-  length,
-  map,
-  take,
-  get_or,
-  None,
-  Some,
-  refl,
-  ap,
-  sym,
-  cond,
-  arith,
-  codes,
-}
-use Rattle.std.specs.Prelude.{
-  Option,
-  IfSome,
-  ◌&&◌,
-  ◌||◌,
-  nat_le,
-  nat_lt,
-  ◌==◌,
-  slice_get,
-  is_some,
-  option_map,
-  option_and_then,
-  unwrap_or,
-}
+use Rattle.std.proofs.Common.{◌≡◌, ◌∙◌, ◌<◌, ◌≤◌, ◌+◌, ℕ, suc, zero, Bool, true, false, List, []}
+use Rattle.std.proofs.Common.{◌∷◌, length, map, take, get_or, None, Some, refl, ap, sym, cond}
+use Rattle.std.proofs.Common.{arith, codes}
+use Rattle.std.specs.Prelude.{Option, IfSome, ◌&&◌, ◌||◌, nat_le, nat_lt, ◌==◌, slice_get, is_some}
+use Rattle.std.specs.Prelude.{option_map, option_and_then, unwrap_or}
 use Rattle.std.specs.List.{cons_option, filter, filter_map, list_any, prefix_len}
 use Rattle.std.specs.Option.{option_map_or, option_or}
 use Rattle.std.proofs.lemmas.Bool.{leb-true, ltb-false}
 use Rattle.std.proofs.lemmas.List.{length-take}
 use Rattle.std.proofs.lemmas.List.Sums.{prefix_len-le-length}
 use Rattle.clap.specs.Words.{Row as Found}
-use Rattle.adjust.specs.Command.{
-  adjustments_of,
-  default_kinds,
-  default_of,
-  first_fault,
-  first_value_fault,
-  number_at,
-  place_of,
-  range_fault,
-  row_fault,
-  value,
-  value_fault,
-  is_given,
-}
-use Rattle.adjust.specs.Lists.{
-  bad_entry,
-  entry,
-  is_among,
-  is_entry,
-  kind_rows,
-  kinds,
-  listen_of,
-  parts,
-}
+use Rattle.adjust.specs.Command.{adjustments_of, default_kinds, default_of, first_fault}
+use Rattle.adjust.specs.Command.{first_value_fault, number_at, place_of, range_fault, row_fault}
+use Rattle.adjust.specs.Command.{value, value_fault, is_given}
+use Rattle.adjust.specs.Lists.{bad_entry, entry, is_among, is_entry, kind_rows, kinds, listen_of}
+use Rattle.adjust.specs.Lists.{parts}
 use Rattle.adjust.specs.Options.{Row, option_rows}
 use Rattle.adjust.specs.Ranges.{IsBetween, IsInRange, is_forwarded}
 use Rattle.adjust.specs.Values.{number}

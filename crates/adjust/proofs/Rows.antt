@@ -1,32 +1,7 @@
 -- The rows of the table by their names, and the first fault among them.
-use Rattle.std.proofs.Common.{
-  ◌≡◌,
-  ◌∙◌,
-  ◌<◌,
-  ◌≤◌,
-  ◌+◌,
-  ℕ,
-  suc,
-  Bool,
-  true,
-  false,
-  List,
-  [],
-  ◌∷◌,
-  ◌++◌,
-  length,
-  map,
-  take,
-  drop,
-  get_or,
-  None,
-  Some,
-  refl,
-  ap,
-  sym,
-  cond,
-  add-one,
-}
+use Rattle.std.proofs.Common.{◌≡◌, ◌∙◌, ◌<◌, ◌≤◌, ◌+◌, ℕ, suc, Bool, true, false, List, [], ◌∷◌}
+use Rattle.std.proofs.Common.{◌++◌, length, map, take, drop, get_or, None, Some, refl, ap, sym}
+use Rattle.std.proofs.Common.{cond, add-one}
 use Rattle.std.specs.Prelude.{Option, not, find, position, slice_get, option_map, unwrap_or}
 use Rattle.std.specs.List.{cons_option, filter_map, prefix_len}
 use Rattle.std.specs.Option.{option_map_or}

@@ -1,34 +1,7 @@
 -- What a command line asks for, or what is wrong with it.
-use Rattle.std.specs.Prelude.{
-  ◌≡◌,
-  ◌⊎◌,
-  ℕ,
-  Bool,
-  true,
-  false,
-  not,
-  ◌&&◌,
-  ◌||◌,
-  nat_le,
-  List,
-  [],
-  ◌∷◌,
-  position,
-  find,
-  codes,
-  slice_get,
-  unwrap_or,
-  Option,
-  None,
-  Some,
-  is_some,
-  option_map,
-  option_and_then,
-  Result,
-  Ok,
-  Err,
-  if◌then◌else◌,
-}
+use Rattle.std.specs.Prelude.{◌≡◌, ◌⊎◌, ℕ, Bool, true, false, not, ◌&&◌, ◌||◌, nat_le, List, []}
+use Rattle.std.specs.Prelude.{◌∷◌, position, find, codes, slice_get, unwrap_or, Option, None, Some}
+use Rattle.std.specs.Prelude.{is_some, option_map, option_and_then, Result, Ok, Err, if◌then◌else◌}
 use Rattle.std.specs.Borrow.{Bor}
 use Rattle.std.specs.List.{filter_map}
 use Rattle.std.specs.Option.{option_map_or, option_or}

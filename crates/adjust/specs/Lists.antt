@@ -1,40 +1,9 @@
 -- Values that are lists: addresses to listen at, and kinds of proxy headers.
-use Rattle.std.specs.Prelude.{
-  ℕ,
-  Bool,
-  true,
-  false,
-  ◌&&◌,
-  ◌||◌,
-  ◌==◌,
-  ◌+◌,
-  nat_le,
-  nat_lt,
-  List,
-  [],
-  ◌∷◌,
-  length,
-  map,
-  take,
-  codes,
-  Option,
-  None,
-  Some,
-  is_some,
-  option_map,
-  option_and_then,
-  if◌then◌else◌,
-}
-use Rattle.std.specs.List.{
-  after_last,
-  before_last,
-  filter,
-  filter_map,
-  list_all,
-  list_any,
-  prefix_len,
-  slice_split,
-}
+use Rattle.std.specs.Prelude.{ℕ, Bool, true, false, ◌&&◌, ◌||◌, ◌==◌, ◌+◌, nat_le, nat_lt, List, []}
+use Rattle.std.specs.Prelude.{◌∷◌, length, map, take, codes, Option, None, Some, is_some}
+use Rattle.std.specs.Prelude.{option_map, option_and_then, if◌then◌else◌}
+use Rattle.std.specs.List.{after_last, before_last, filter, filter_map, list_all, list_any}
+use Rattle.std.specs.List.{prefix_len, slice_split}
 use Rattle.std.specs.Borrow.{Bor}
 use Rattle.std.specs.Str.{str_eq_ignore_ascii_case}
 use Rattle.outside.specs.declared.types.Kind.{Kind}

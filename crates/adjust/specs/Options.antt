@@ -1,18 +1,8 @@
 -- The options of the server.
 use Rattle.std.specs.Prelude.{ℕ, List, [], ◌∷◌, codes}
 use Rattle.adjust.specs.declared.options.Form.{Form}
-use Rattle.adjust.specs.declared.options.Form.TheVariants.{
-  Host,
-  Number,
-  Addresses,
-  Proxy,
-  Kinds,
-  Scheme,
-  Path,
-  Name,
-  FieldText,
-  Flag,
-}
+use Rattle.adjust.specs.declared.options.Form.TheVariants.{Host, Number, Addresses, Proxy, Kinds}
+use Rattle.adjust.specs.declared.options.Form.TheVariants.{Scheme, Path, Name, FieldText, Flag}
 use Rattle.adjust.specs.declared.options.Field.{Field}
 use Rattle.adjust.specs.declared.options.Field.TheVariants as field
 use Rattle.adjust.specs.declared.options.OptionRow.{OptionRow}

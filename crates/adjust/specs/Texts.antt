@@ -1,23 +1,6 @@
 -- What is printed: the texts of faults, the adjustments and the help.
-use Rattle.std.specs.Prelude.{
-  ℕ,
-  Bool,
-  true,
-  false,
-  ◌==◌,
-  List,
-  [],
-  ◌∷◌,
-  ◌++◌,
-  map,
-  codes,
-  decimal,
-  slice_get,
-  Option,
-  None,
-  Some,
-  if◌then◌else◌,
-}
+use Rattle.std.specs.Prelude.{ℕ, Bool, true, false, ◌==◌, List, [], ◌∷◌, ◌++◌, map, codes, decimal}
+use Rattle.std.specs.Prelude.{slice_get, Option, None, Some, if◌then◌else◌}
 use Rattle.std.specs.List.{concat, list_any}
 use Rattle.std.specs.Option.{option_map_or}
 use Rattle.outside.specs.declared.types.Kind.{Kind}

@@ -1,27 +1,7 @@
 -- What the values of options are read as.
-use Rattle.std.specs.Prelude.{
-  ℕ,
-  Bool,
-  false,
-  not,
-  ◌&&◌,
-  ◌||◌,
-  ◌==◌,
-  ◌-◌,
-  nat_lt,
-  List,
-  [],
-  ◌∷◌,
-  length,
-  take,
-  drop,
-  codes,
-  slice_get,
-  Option,
-  None,
-  Some,
-  if◌then◌else◌,
-}
+use Rattle.std.specs.Prelude.{ℕ, Bool, false, not, ◌&&◌, ◌||◌, ◌==◌, ◌-◌, nat_lt, List, [], ◌∷◌}
+use Rattle.std.specs.Prelude.{length, take, drop, codes, slice_get, Option, None, Some}
+use Rattle.std.specs.Prelude.{if◌then◌else◌}
 use Rattle.std.specs.List.{list_all, prefix_len, suffix_len}
 use Rattle.std.specs.Option.{option_map_or}
 use Rattle.std.specs.Str.{bytes_eq}

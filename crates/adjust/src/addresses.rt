@@ -1,19 +1,6 @@
 //! Addresses to listen at.
-ghost use Rattle.std.specs.Prelude.{
-  ◌≡◌,
-  ◌==◌,
-  ◌+◌,
-  ◌-◌,
-  ◌≤◌,
-  [],
-  false,
-  length,
-  not,
-  option_map,
-  IfOk,
-  IfSome,
-  IfNone,
-};
+ghost use Rattle.std.specs.Prelude.{◌≡◌, ◌==◌, ◌+◌, ◌-◌, ◌≤◌, [], false, length, not, option_map};
+ghost use Rattle.std.specs.Prelude.{IfOk, IfSome, IfNone};
 ghost use Rattle.std.specs.List.{after_last, before_last, suffix_len};
 ghost use Rattle.adjust.specs.Lists as spec;
 

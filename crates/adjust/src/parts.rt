@@ -1,16 +1,6 @@
 //! The parts of a value that is a list.
-ghost use Rattle.std.specs.Prelude.{
-  ◌≡◌,
-  ◌∷◌,
-  ◌<◌,
-  [],
-  false,
-  true,
-  length,
-  position,
-  IfSome,
-  IfNone,
-};
+ghost use Rattle.std.specs.Prelude.{◌≡◌, ◌∷◌, ◌<◌, [], false, true, length, position, IfSome};
+ghost use Rattle.std.specs.Prelude.{IfNone};
 ghost use Rattle.std.specs.Iterator.{YieldsFirstRef, item_count};
 ghost use Rattle.adjust.specs.Lists as spec;
 

@@ -1,18 +1,6 @@
 //! What single values are read as.
-ghost use Rattle.std.specs.Prelude.{
-  ◌≡◌,
-  ◌==◌,
-  ◌+◌,
-  ◌*◌,
-  ◌≤◌,
-  length,
-  option_map,
-  not,
-  position,
-  true,
-  IfOk,
-  IsTrue,
-};
+ghost use Rattle.std.specs.Prelude.{◌≡◌, ◌==◌, ◌+◌, ◌*◌, ◌≤◌, length, option_map, not, position};
+ghost use Rattle.std.specs.Prelude.{true, IfOk, IsTrue};
 ghost use Rattle.std.specs.Char.{digit_value};
 ghost use Rattle.std.specs.List.{list_all, prefix_len};
 ghost use Rattle.std.specs.Str.Parse.{digits_value};

@@ -1,27 +1,6 @@
 -- A list that is read item by item.
-use Rattle.std.proofs.Common.{
-  ◌≡◌,
-  ℕ,
-  suc,
-  List,
-  [],
-  ◌∷◌,
-  ◌++◌,
-  length,
-  get_or,
-  Option,
-  Some,
-  None,
-  option_map,
-  Result,
-  Ok,
-  Err,
-  refl,
-  sym,
-  ap,
-  arith,
-  append_assoc,
-}
+use Rattle.std.proofs.Common.{◌≡◌, ℕ, suc, List, [], ◌∷◌, ◌++◌, length, get_or, Option, Some, None}
+use Rattle.std.proofs.Common.{option_map, Result, Ok, Err, refl, sym, ap, arith, append_assoc}
 use Rattle.std.proofs.lemmas.List.{length-append}
 use Rattle.toml.specs.Data.{Data, Items, no_items, item, Members}
 use Rattle.toml.specs.View.{view, items_view}

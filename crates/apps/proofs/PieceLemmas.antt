@@ -1,30 +1,6 @@
 -- A body that is cut into pieces.
-use Rattle.std.proofs.Common.{
-  ◌≡◌,
-  ◌<◌,
-  ◌-◌,
-  ℕ,
-  suc,
-  min,
-  List,
-  [],
-  ◌∷◌,
-  ◌++◌,
-  Bool,
-  Option,
-  None,
-  false,
-  IsTrue,
-  length,
-  take,
-  drop,
-  map,
-  refl,
-  ap,
-  sym,
-  ◌∙◌,
-  arith,
-}
+use Rattle.std.proofs.Common.{◌≡◌, ◌<◌, ◌-◌, ℕ, suc, min, List, [], ◌∷◌, ◌++◌, Bool, Option, None}
+use Rattle.std.proofs.Common.{false, IsTrue, length, take, drop, map, refl, ap, sym, ◌∙◌, arith}
 use Rattle.std.specs.Simd.{first_chunks}
 use Rattle.std.proofs.lemmas.List.{take_min, take_all, take-append-le, drop_all, length-drop}
 use Rattle.spill_buffer.specs.Buffer.{IsToldAs}

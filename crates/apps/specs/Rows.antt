@@ -1,44 +1,11 @@
 -- The row that a table of the file writes (TOML, 'Table', 'Array of Tables').
-use Rattle.std.specs.Prelude.{
-  ℕ,
-  pos,
-  Bool,
-  true,
-  false,
-  not,
-  ◌&&◌,
-  ◌||◌,
-  ◌==◌,
-  List,
-  [],
-  ◌∷◌,
-  length,
-  slice_index,
-  codes,
-  Option,
-  None,
-  Some,
-  option_map,
-  option_and_then,
-  if◌then◌else◌,
-}
+use Rattle.std.specs.Prelude.{ℕ, pos, Bool, true, false, not, ◌&&◌, ◌||◌, ◌==◌, List, [], ◌∷◌}
+use Rattle.std.specs.Prelude.{length, slice_index, codes, Option, None, Some, option_map}
+use Rattle.std.specs.Prelude.{option_and_then, if◌then◌else◌}
 use Rattle.std.specs.List.{list_any}
 use Rattle.std.specs.Str.{bytes_eq}
-use Rattle.toml.specs.Data.{
-  Data,
-  string,
-  integer,
-  boolean,
-  array,
-  table,
-  Items,
-  no_items,
-  item,
-  Members,
-  no_members,
-  member,
-  get_member,
-}
+use Rattle.toml.specs.Data.{Data, string, integer, boolean, array, table, Items, no_items, item}
+use Rattle.toml.specs.Data.{Members, no_members, member, get_member}
 use Rattle.head_grammar.specs.declared.types.Field.{Field}
 use Rattle.apps.specs.declared.row.Row.{Row}
 

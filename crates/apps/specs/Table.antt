@@ -1,23 +1,6 @@
 -- The rows of a file, or what is wrong with it.
-use Rattle.std.specs.Prelude.{
-  ◌≡◌,
-  ◌⊎◌,
-  ℕ,
-  suc,
-  nat_le,
-  List,
-  [],
-  ◌∷◌,
-  length,
-  codes,
-  Option,
-  None,
-  Some,
-  Result,
-  Ok,
-  Err,
-  if◌then◌else◌,
-}
+use Rattle.std.specs.Prelude.{◌≡◌, ◌⊎◌, ℕ, suc, nat_le, List, [], ◌∷◌, length, codes, Option, None}
+use Rattle.std.specs.Prelude.{Some, Result, Ok, Err, if◌then◌else◌}
 use Rattle.std.specs.Option.{ok_or}
 use Rattle.std.specs.Str.{bytes_eq, is_utf8}
 use Rattle.toml.specs.Data.{Members, no_members, member}

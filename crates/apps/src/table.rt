@@ -1,21 +1,6 @@
 //! The application that answers by a table of rows.
-ghost use Rattle.std.specs.Prelude.{
-  ◌≡◌,
-  ◌≢◌,
-  ◌<◌,
-  ◌^◌,
-  ◌-◌,
-  true,
-  length,
-  slice_get,
-  drop,
-  find,
-  option_copied,
-  IfOk,
-  IfSome,
-  IsSome,
-  Err,
-};
+ghost use Rattle.std.specs.Prelude.{◌≡◌, ◌≢◌, ◌<◌, ◌^◌, ◌-◌, true, length, slice_get, drop, find};
+ghost use Rattle.std.specs.Prelude.{option_copied, IfOk, IfSome, IsSome, Err};
 ghost use Rattle.apps.specs.Table.{table_of, IsOrLacksMemory};
 ghost use Rattle.apps.specs.TableScript.{answers, script_for, table_script};
 ghost use Rattle.apps.specs.TableLaws.{rest_is_counted};

@@ -58,6 +58,7 @@ module _ {A R S : Type 0} (known : Known A R S) (old new : State A R S) (l : Lef
       ∙ length-append r.finished (cur.0.unit ∷ [])
 
   module _ (w : Window) (below : length_of old.output ≤ w.high_watermark) where
+
 no_unit : {S : Type 0} (o : Option (Current S)) → is_some o ≡ false → map unit_of (option_to_list o)
     ≡ []
 no_unit None e = refl

@@ -1,35 +1,7 @@
 -- The steps of a file.
-use Rattle.std.proofs.Common.{
-  ◌≡◌,
-  ◌≤◌,
-  ◌<◌,
-  ◌+◌,
-  ◌-◌,
-  ◌^◌,
-  ◌∙◌,
-  ℕ,
-  Bool,
-  true,
-  false,
-  cond,
-  min,
-  List,
-  [],
-  ◌∷◌,
-  length,
-  take,
-  drop,
-  Option,
-  None,
-  Some,
-  Result,
-  Ok,
-  Err,
-  refl,
-  ap,
-  sym,
-  arith,
-}
+use Rattle.std.proofs.Common.{◌≡◌, ◌≤◌, ◌<◌, ◌+◌, ◌-◌, ◌^◌, ◌∙◌, ℕ, Bool, true, false, cond, min}
+use Rattle.std.proofs.Common.{List, [], ◌∷◌, length, take, drop, Option, None, Some, Result, Ok}
+use Rattle.std.proofs.Common.{Err, refl, ap, sym, arith}
 use Rattle.std.specs.Prelude.{nat_lt, option_map, unwrap_or, IfSome, IsSomeAnd}
 use Rattle.std.proofs.lemmas.Bool.{lt-ltb}
 use Rattle.std.proofs.lemmas.List.{drop_all, drop-drop, length-drop, take_min}

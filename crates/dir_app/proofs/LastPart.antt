@@ -1,25 +1,6 @@
 -- The last part of a path, and the parts of a longer one.
-use Rattle.std.specs.Prelude.{
-  ◌≡◌,
-  ◌≤◌,
-  ◌<◌,
-  ◌+◌,
-  ◌-◌,
-  ℕ,
-  suc,
-  Bool,
-  true,
-  false,
-  not,
-  ◌==◌,
-  List,
-  [],
-  ◌∷◌,
-  ◌++◌,
-  length,
-  drop,
-  refl,
-}
+use Rattle.std.specs.Prelude.{◌≡◌, ◌≤◌, ◌<◌, ◌+◌, ◌-◌, ℕ, suc, Bool, true, false, not, ◌==◌, List}
+use Rattle.std.specs.Prelude.{[], ◌∷◌, ◌++◌, length, drop, refl}
 use Rattle.std.specs.List.{after_last, onto_first, prefix_len, slice_split, suffix_len}
 use Rattle.std.proofs.Common.{◌∙◌, ◌⊎◌, inl, inr, ap, cond, sym, subst, reverse, arith}
 use Rattle.std.proofs.lemmas.List.{length-reverse, reverse-append}

@@ -1,22 +1,6 @@
 -- The promise of the names: behind the root, each part of the name of a file leads down.
-use Rattle.std.specs.Prelude.{
-  ◌≡◌,
-  ◌<◌,
-  ℕ,
-  Bool,
-  true,
-  false,
-  ◌&&◌,
-  ◌==◌,
-  nat_lt,
-  List,
-  [],
-  ◌∷◌,
-  ◌++◌,
-  length,
-  codes,
-  refl,
-}
+use Rattle.std.specs.Prelude.{◌≡◌, ◌<◌, ℕ, Bool, true, false, ◌&&◌, ◌==◌, nat_lt, List, [], ◌∷◌}
+use Rattle.std.specs.Prelude.{◌++◌, length, codes, refl}
 use Rattle.std.specs.List.{after_last, join_with_byte, list_all, slice_split}
 use Rattle.std.proofs.Common.{◌∙◌, ap, sym, arith}
 use Rattle.std.proofs.lemmas.Bool.{and_from, eqb-true, lt-ltb, false≢true}
@@ -24,16 +8,8 @@ use Rattle.std.proofs.lemmas.List.{append-nil}
 use Rattle.std.proofs.lemmas.List.Splits.{join_with_byte-slice_split}
 use Rattle.byte_tables.proofs.Cuts.{some_part}
 use Rattle.dir_app.proofs.LastPart.{behind_slash, last_of, longer, onto_last}
-use Rattle.dir_app.specs.Names.{
-  are_names,
-  is_name,
-  is_slash,
-  leads_down,
-  page,
-  parts,
-  path_of,
-  stays_below,
-}
+use Rattle.dir_app.specs.Names.{are_names, is_name, is_slash, leads_down, page, parts, path_of}
+use Rattle.dir_app.specs.Names.{stays_below}
 
 -- names lead down where the last one isn't empty, and where a page stands in its place
 first_true : (a b : Bool) → (a && b) ≡ true → a ≡ true

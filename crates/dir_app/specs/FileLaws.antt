@@ -1,26 +1,6 @@
 -- The steps that are left are as many as is said.
-use Rattle.std.specs.Prelude.{
-  ◌≡◌,
-  ◌≤◌,
-  ◌+◌,
-  ◌-◌,
-  ◌^◌,
-  ℕ,
-  Bool,
-  true,
-  false,
-  List,
-  [],
-  Option,
-  None,
-  Some,
-  length,
-  drop,
-  nat_lt,
-  option_map,
-  unwrap_or,
-  refl,
-}
+use Rattle.std.specs.Prelude.{◌≡◌, ◌≤◌, ◌+◌, ◌-◌, ◌^◌, ℕ, Bool, true, false, List, [], Option, None}
+use Rattle.std.specs.Prelude.{Some, length, drop, nat_lt, option_map, unwrap_or, refl}
 use Rattle.std.specs.Option.{ForSome}
 use Rattle.std.proofs.Common.{◌∙◌, ap, cond, arith}
 use Rattle.std.proofs.Math.Nat.{le_of_eq}

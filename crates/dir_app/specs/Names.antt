@@ -1,24 +1,8 @@
 -- Which files a path may name. No name leads out of the root by its words: no part is "." or "..",
 -- none has a
 -- NUL or a "\", and none but the last is empty.
-use Rattle.std.specs.Prelude.{
-  ℕ,
-  Bool,
-  true,
-  not,
-  ◌&&◌,
-  ◌||◌,
-  ◌==◌,
-  nat_lt,
-  List,
-  [],
-  ◌∷◌,
-  ◌++◌,
-  length,
-  drop,
-  codes,
-  slice_index,
-}
+use Rattle.std.specs.Prelude.{ℕ, Bool, true, not, ◌&&◌, ◌||◌, ◌==◌, nat_lt, List, [], ◌∷◌, ◌++◌}
+use Rattle.std.specs.Prelude.{length, drop, codes, slice_index}
 use Rattle.std.specs.List.{after_last, list_any, slice_split}
 use Rattle.std.specs.Str.{bytes_eq, is_utf8}
 

@@ -1,23 +1,6 @@
 //! The steps of a file.
-ghost use Rattle.std.specs.Prelude.{
-  ◌≡◌,
-  ◌≤◌,
-  ◌<◌,
-  ◌-◌,
-  ◌^◌,
-  ◌+◌,
-  ◌∷◌,
-  ℕ,
-  IsTrue,
-  Some,
-  min,
-  take,
-  drop,
-  IfOk,
-  IfSome,
-  length,
-  option_map,
-};
+ghost use Rattle.std.specs.Prelude.{◌≡◌, ◌≤◌, ◌<◌, ◌-◌, ◌^◌, ◌+◌, ◌∷◌, ℕ, IsTrue, Some, min, take};
+ghost use Rattle.std.specs.Prelude.{drop, IfOk, IfSome, length, option_map};
 ghost use Rattle.std.specs.Option.{ForSome};
 ghost use Rattle.wsgi.specs.Run.{FallsWithStep, RunCause, TakesStep};
 ghost use Rattle.dir_app.specs.DirScript as script;

@@ -1,22 +1,7 @@
 //! The files that paths name.
-ghost use Rattle.std.specs.Prelude.{
-  ◌≡◌,
-  ◌==◌,
-  ◌<◌,
-  ◌++◌,
-  ◌∷◌,
-  [],
-  None,
-  Some,
-  length,
-  option_copied,
-  position,
-  string_bytes,
-  IfNone,
-  IfOk,
-  IfSome,
-  if◌then◌else◌,
-};
+ghost use Rattle.std.specs.Prelude.{◌≡◌, ◌==◌, ◌<◌, ◌++◌, ◌∷◌, [], None, Some, length};
+ghost use Rattle.std.specs.Prelude.{option_copied, position, string_bytes, IfNone, IfOk, IfSome};
+ghost use Rattle.std.specs.Prelude.{if◌then◌else◌};
 ghost use Rattle.std.specs.List.{after_last, list_any, slice_split};
 ghost use Rattle.std.specs.Str.{is_utf8};
 ghost use Rattle.dir_app.specs.Names as spec;

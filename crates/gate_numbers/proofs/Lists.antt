@@ -1,23 +1,6 @@
 -- What one more entry adds.
-use Rattle.std.proofs.Common.{
-  if◌then◌else◌,
-  arith,
-  ◌≡◌,
-  ℕ,
-  ◌+◌,
-  Bool,
-  true,
-  false,
-  List,
-  [],
-  ◌∷◌,
-  ◌++◌,
-  Option,
-  sym,
-  ap,
-  ◌∙◌,
-  append_assoc,
-}
+use Rattle.std.proofs.Common.{if◌then◌else◌, arith, ◌≡◌, ℕ, ◌+◌, Bool, true, false, List, [], ◌∷◌}
+use Rattle.std.proofs.Common.{◌++◌, Option, sym, ap, ◌∙◌, append_assoc}
 use mathlib.Core.List.{append-nil}
 use Rattle.std.specs.List.{range_with_len}
 use Rattle.std.proofs.lemmas.List.{map-id}

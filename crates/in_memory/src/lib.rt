@@ -5,22 +5,10 @@
 ghost use Rattle.std.specs.Prelude.{◌≡◌, ◌≢◌, ◌⊎◌, true};
 ghost use Rattle.adjust.specs.Command.{command};
 ghost use Rattle.adjust.specs.CommandLine.{words_of};
-ghost use Rattle.in_memory.specs.Theorem.{
-  EndsFor,
-  HasStatus,
-  IsSentFront,
-  StaysSound,
-  reasons,
-};
+ghost use Rattle.in_memory.specs.Theorem.{EndsFor, HasStatus, IsSentFront, StaysSound, reasons};
 ghost use Rattle.waitress_serve.specs.Completeness.{Completes};
-ghost use Rattle.waitress_serve.specs.Headline.{
-  Added,
-  KeepsLimit,
-  RetiresGiven,
-  SettlesRuns,
-  SettlesSpills,
-  ShutLast,
-};
+ghost use Rattle.waitress_serve.specs.Headline.{Added, KeepsLimit, RetiresGiven, SettlesRuns};
+ghost use Rattle.waitress_serve.specs.Headline.{SettlesSpills, ShutLast};
 ghost use Rattle.waitress_serve.specs.Owed.{owed};
 ghost use Rattle.waitress_serve.specs.Reports.{Reports, Writes};
 ghost use Rattle.waitress_serve.specs.Status.{WritesPart, limit_by, printed};

@@ -1,14 +1,7 @@
 //! One connection: bytes come in and go out, and neither call waits.
 ghost use Rattle.std.specs.Prelude.{◌≡◌, ◌<◌, ℕ, Bool, IsTrue, length};
-ghost use Rattle.outside.specs.Link.{
-  LinkState,
-  Receives,
-  Sends,
-  GotWithin,
-  TookWithin,
-  RecvCause,
-  SendCause,
-};
+ghost use Rattle.outside.specs.Link.{LinkState, Receives, Sends, GotWithin, TookWithin, RecvCause};
+ghost use Rattle.outside.specs.Link.{SendCause};
 
 use crate::{Recv, Sent};
 

@@ -1,22 +1,6 @@
 //! An entry of a tree in memory.
-ghost use Rattle.std.specs.Prelude.{
-  ◌≡◌,
-  ◌≤◌,
-  ◌+◌,
-  ◌↔◌,
-  true,
-  IsTrue,
-  IsErr,
-  IfOk,
-  OnOk,
-  IfSome,
-  IsSomeAnd,
-  MatchOption,
-  None,
-  length,
-  take,
-  drop,
-};
+ghost use Rattle.std.specs.Prelude.{◌≡◌, ◌≤◌, ◌+◌, ◌↔◌, true, IsTrue, IsErr, IfOk, OnOk, IfSome};
+ghost use Rattle.std.specs.Prelude.{IsSomeAnd, MatchOption, None, length, take, drop};
 ghost use Rattle.std.specs.Option.{option_copied};
 ghost use Rattle.outside.specs.Causes.{HasCause, faults_after, raised};
 ghost use Rattle.outside.specs.Memory.{is_listed};

@@ -30,18 +30,8 @@ pub struct MemLink {
 }
 
 impl Model for MemLink {
-    ghost use Rattle.std.specs.Prelude.{
-      ◌≡◌,
-      ◌≤◌,
-      ◌<◌,
-      ◌+◌,
-      ◌-◌,
-      length,
-      map,
-      take,
-      IsTrue,
-      vec_capacity,
-    };
+    ghost use Rattle.std.specs.Prelude.{◌≡◌, ◌≤◌, ◌<◌, ◌+◌, ◌-◌, length, map, take, IsTrue};
+    ghost use Rattle.std.specs.Prelude.{vec_capacity};
     ghost use Rattle.outside.specs.Memory.{is_listed};
     ghost use Rattle.outside.specs.MemLink.{MemLinkState};
 

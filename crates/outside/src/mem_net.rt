@@ -41,19 +41,8 @@ pub struct MemNet {
 }
 
 impl Model for MemNet {
-    ghost use Rattle.std.specs.Prelude.{
-      ◌≡◌,
-      ◌≤◌,
-      ◌<◌,
-      ◌+◌,
-      ◌^◌,
-      length,
-      vec_capacity,
-      is_none,
-      unwrap_or,
-      IsTrue,
-      All,
-    };
+    ghost use Rattle.std.specs.Prelude.{◌≡◌, ◌≤◌, ◌<◌, ◌+◌, ◌^◌, length, vec_capacity, is_none};
+    ghost use Rattle.std.specs.Prelude.{unwrap_or, IsTrue, All};
     ghost use Rattle.std.specs.Option.{ForSome, IsSomeAnd};
     ghost use Rattle.outside.specs.Memory.{is_listed};
     ghost use Rattle.outside.specs.MemNet.{MemNetState, AreComers, PolledByPlan};

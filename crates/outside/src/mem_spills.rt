@@ -1,24 +1,6 @@
 //! Spills in memory.
-ghost use Rattle.std.specs.Prelude.{
-  ◌≡◌,
-  ◌≤◌,
-  ◌+◌,
-  ◌-◌,
-  ◌↔◌,
-  ◌++◌,
-  [],
-  true,
-  IsTrue,
-  IsErr,
-  IfOk,
-  OnOk,
-  OnErr,
-  length,
-  map,
-  take,
-  drop,
-  min,
-};
+ghost use Rattle.std.specs.Prelude.{◌≡◌, ◌≤◌, ◌+◌, ◌-◌, ◌↔◌, ◌++◌, [], true, IsTrue, IsErr, IfOk};
+ghost use Rattle.std.specs.Prelude.{OnOk, OnErr, length, map, take, drop, min};
 ghost use Rattle.std.proofs.Common.{refl};
 ghost use Rattle.outside.specs.Causes.{HasCause, faults_after, raised, added};
 ghost use Rattle.outside.specs.Memory.{FailsByPlan, is_listed, first_list};

@@ -1,33 +1,10 @@
 //! The net: where connections come from and go to.
-ghost use Rattle.std.specs.Prelude.{
-  ◌≡◌,
-  ◌≢◌,
-  ◌≤◌,
-  ℕ,
-  ◌-◌,
-  ◌++◌,
-  ◌∷◌,
-  [],
-  Bool,
-  IsTrue,
-  map,
-  IfOk,
-  OnErr,
-  OnOk,
-  IfSome,
-  Some,
-};
+ghost use Rattle.std.specs.Prelude.{◌≡◌, ◌≢◌, ◌≤◌, ℕ, ◌-◌, ◌++◌, ◌∷◌, [], Bool, IsTrue, map, IfOk};
+ghost use Rattle.std.specs.Prelude.{OnErr, OnOk, IfSome, Some};
 ghost use Rattle.outside.specs.Causes.{HasCause};
 ghost use Rattle.outside.specs.Link.{opened};
-ghost use Rattle.outside.specs.Net.{
-  NetState,
-  Polls,
-  Accepts,
-  AcceptCause,
-  TakesKey,
-  asked_of,
-  moment_after,
-};
+ghost use Rattle.outside.specs.Net.{NetState, Polls, Accepts, AcceptCause, TakesKey, asked_of};
+ghost use Rattle.outside.specs.Net.{moment_after};
 
 use crate::{End, Failed, Link, Listen, NetFault, Peer, Turn, Want};
 use std::alloc::Global;

@@ -1,23 +1,6 @@
 //! Temporary stores of bytes, for what is not to be held in memory.
-ghost use Rattle.std.specs.Prelude.{
-  ◌≡◌,
-  ◌≤◌,
-  ◌+◌,
-  ◌-◌,
-  ℕ,
-  Bool,
-  IsTrue,
-  List,
-  [],
-  ◌++◌,
-  length,
-  take,
-  drop,
-  min,
-  OnOk,
-  OnErr,
-  IfOk,
-};
+ghost use Rattle.std.specs.Prelude.{◌≡◌, ◌≤◌, ◌+◌, ◌-◌, ℕ, Bool, IsTrue, List, [], ◌++◌, length};
+ghost use Rattle.std.specs.Prelude.{take, drop, min, OnOk, OnErr, IfOk};
 ghost use Rattle.outside.specs.Causes.{HasCause, added};
 
 use crate::Failed;

@@ -1,33 +1,11 @@
 -- What is known of a net and of those who are open, from one moment to a later one.
-use Rattle.std.proofs.Common.{
-  ◌≡◌,
-  ◌≤◌,
-  ◌+◌,
-  ℕ,
-  List,
-  [],
-  ◌∷◌,
-  ◌++◌,
-  length,
-  refl,
-  ap,
-  sym,
-  subst,
-  ◌∙◌,
-  arith,
-  append_assoc,
-  append-nil,
-  length-append,
-}
+use Rattle.std.proofs.Common.{◌≡◌, ◌≤◌, ◌+◌, ℕ, List, [], ◌∷◌, ◌++◌, length, refl, ap, sym, subst}
+use Rattle.std.proofs.Common.{◌∙◌, arith, append_assoc, append-nil, length-append}
 use Rattle.std.specs.Prelude.{IsPermutation, filter}
 use Rattle.std.proofs.lemmas.List.{map-append}
 use Rattle.std.proofs.lemmas.List.Elements.{filter-append}
-use Rattle.std.proofs.lemmas.List.Sorted.{
-  IsPermutation-append_left,
-  IsPermutation-append_right,
-  IsPermutation-refl,
-  IsPermutation-trans,
-}
+use Rattle.std.proofs.lemmas.List.Sorted.{IsPermutation-append_left, IsPermutation-append_right}
+use Rattle.std.proofs.lemmas.List.Sorted.{IsPermutation-refl, IsPermutation-trans}
 use Rattle.channel.specs.Views.{Owed}
 use Rattle.outside.specs.Causes.{added}
 use Rattle.outside.specs.Link.{LinkState}
@@ -38,18 +16,8 @@ use Rattle.outside.specs.declared.types.End.TheVariants as over
 use Rattle.outside.specs.declared.types.Peer.{Peer}
 use Rattle.poll_loop.specs.Accounts.{Accounts, Books, TimeGoesOn, retired_of}
 use Rattle.poll_loop.specs.Connections.{going_on, shutting_down}
-use Rattle.poll_loop.specs.Entries.{
-  EndHolds,
-  EntryHolds,
-  Grounds,
-  IsTimely,
-  IsWithin,
-  Service,
-  app_faults,
-  is_app_fault,
-  is_spill_fault,
-  spill_faults,
-}
+use Rattle.poll_loop.specs.Entries.{EndHolds, EntryHolds, Grounds, IsTimely, IsWithin, Service}
+use Rattle.poll_loop.specs.Entries.{app_faults, is_app_fault, is_spill_fault, spill_faults}
 use Rattle.poll_loop.specs.Lists.{EachIs}
 
 -- ---- lists
@@ -134,6 +102,7 @@ module _ {L P : Type 0} (service : Service) (grounds : Grounds) where
   }
 
 module _ {L P : Type 0} (service : Service) (broke : Type 0) where
+
 -- ---- counts
 
 pub spill_faults_append : {L : Type 0} (xs ys : List (Retired L)) →

@@ -1,34 +1,7 @@
 -- What a turn leaves behind its poll, put together from accepting and from the connections' parts.
-use Rattle.std.proofs.Common.{
-  ◌≡◌,
-  ◌≤◌,
-  ◌+◌,
-  ◌⊎◌,
-  inl,
-  inr,
-  ℕ,
-  true,
-  false,
-  IsTrue,
-  List,
-  [],
-  ◌∷◌,
-  ◌++◌,
-  Option,
-  None,
-  Some,
-  refl,
-  ap,
-  sym,
-  subst,
-  ◌∙◌,
-  arith,
-  length,
-  map,
-  filter,
-  nat_le,
-  length-append,
-}
+use Rattle.std.proofs.Common.{◌≡◌, ◌≤◌, ◌+◌, ◌⊎◌, inl, inr, ℕ, true, false, IsTrue, List, [], ◌∷◌}
+use Rattle.std.proofs.Common.{◌++◌, Option, None, Some, refl, ap, sym, subst, ◌∙◌, arith, length}
+use Rattle.std.proofs.Common.{map, filter, nat_le, length-append}
 use Rattle.std.proofs.lemmas.List.{length-map}
 use Rattle.std.proofs.lemmas.List.Sorted.{length_permutation}
 use Rattle.outside.specs.Causes.{Rose}
@@ -40,17 +13,8 @@ use Rattle.outside.specs.declared.types.Turn.{Turn}
 use Rattle.outside.specs.declared.types.Want.{Want}
 use Rattle.channel.specs.Views.{View, is_late}
 use Rattle.poll_loop.specs.Accounts.{Accounts, Books, IsMet, LastKnows, books, retired_of}
-use Rattle.poll_loop.specs.Connections.{
-  AcceptsAll,
-  CameMore,
-  Counted,
-  OnlyRetires,
-  SamePolls,
-  SeatIsTimely,
-  Takes,
-  is_kept,
-  seated,
-}
+use Rattle.poll_loop.specs.Connections.{AcceptsAll, CameMore, Counted, OnlyRetires, SamePolls}
+use Rattle.poll_loop.specs.Connections.{SeatIsTimely, Takes, is_kept, seated}
 use Rattle.poll_loop.specs.Entries.{IsWithin}
 use Rattle.poll_loop.specs.Lists.{EachIs}
 use Rattle.poll_loop.specs.NoIdle.{Answers, Hosts, Serving, checked_after, checked_by, views}
@@ -61,14 +25,8 @@ use Rattle.poll_loop.specs.declared.seat.Seat.{Seat}
 use Rattle.poll_loop.specs.declared.settings.Settings.{Settings}
 use Rattle.poll_loop.proofs.Books.{each_append}
 use Rattle.poll_loop.proofs.Cases.{Turned, news_by, turned}
-use Rattle.poll_loop.proofs.Working.{
-  fewer,
-  hosts_seats,
-  map_length,
-  map_twice,
-  room_after,
-  timely_goes_on,
-}
+use Rattle.poll_loop.proofs.Working.{fewer, hosts_seats, map_length, map_twice, room_after}
+use Rattle.poll_loop.proofs.Working.{timely_goes_on}
 
 -- as many were open or came as were retired or are open
 pub as_many : {L P : Type 0} (Holds : NetState L P → Retired L → Type 0) (plan : L → P)

@@ -1,84 +1,29 @@
 -- A whole turn, put together from its parts.
-use Rattle.std.proofs.Common.{
-  ◌≡◌,
-  ◌⊎◌,
-  ◌&&◌,
-  ◌≤◌,
-  ◌<◌,
-  ◌++◌,
-  inl,
-  inr,
-  ℕ,
-  List,
-  [],
-  ◌∷◌,
-  Bool,
-  true,
-  false,
-  IsTrue,
-  refl,
-  ap,
-  sym,
-  subst,
-  ◌∙◌,
-  arith,
-  length,
-  map,
-  Some,
-  None,
-}
+use Rattle.std.proofs.Common.{◌≡◌, ◌⊎◌, ◌&&◌, ◌≤◌, ◌<◌, ◌++◌, inl, inr, ℕ, List, [], ◌∷◌, Bool}
+use Rattle.std.proofs.Common.{true, false, IsTrue, refl, ap, sym, subst, ◌∙◌, arith, length, map}
+use Rattle.std.proofs.Common.{Some, None}
 use Rattle.std.specs.Prelude.{Option, filter, IfSome}
 use Rattle.outside.specs.Causes.{Rose}
 use Rattle.outside.specs.Link.{LinkState, opened, stamped}
 use Rattle.outside.specs.Net.{NetState, asked_of}
 use Rattle.outside.specs.declared.types.Want.{Want}
-use Rattle.channel.specs.Views.{
-  Heard,
-  LinkGoes,
-  Spoke,
-  Stamps,
-  Steps,
-  View,
-  fresh,
-  is_due,
-  is_late,
-  is_writable,
-}
+use Rattle.channel.specs.Views.{Heard, LinkGoes, Spoke, Stamps, Steps, View, fresh, is_due, is_late}
+use Rattle.channel.specs.Views.{is_writable}
 use Rattle.channel.specs.declared.types.Window.{Window}
 use Rattle.poll_loop.specs.Connections.{IsOpenedBy, SeatIsTimely, is_kept, seated}
 use Rattle.poll_loop.specs.Entries.{IsTimely, IsWithin}
 use Rattle.poll_loop.specs.Lists.{Both, EachIs, Paired, UpTo}
 use Rattle.poll_loop.specs.NoIdle.{Asks, Case, IsFresh, Serves, kept, with_kept}
-use Rattle.poll_loop.specs.Seat.{
-  Attends,
-  ChecksIf,
-  Eyes,
-  Follows,
-  Goes,
-  Labours,
-  OverOrHolds,
-  Passes,
-  SeatAsks,
-  SeatHolds,
-  SeatRests,
-  SeatTurns,
-  StaysUp,
-  is_open,
-  viewed,
-}
+use Rattle.poll_loop.specs.Seat.{Attends, ChecksIf, Eyes, Follows, Goes, Labours, OverOrHolds}
+use Rattle.poll_loop.specs.Seat.{Passes, SeatAsks, SeatHolds, SeatRests, SeatTurns, StaysUp}
+use Rattle.poll_loop.specs.Seat.{is_open, viewed}
 use Rattle.poll_loop.specs.Settings.{fixed_by}
 use Rattle.poll_loop.specs.declared.seat.Mark.{Mark}
 use Rattle.poll_loop.specs.declared.seat.Mark.TheVariants as mark
 use Rattle.poll_loop.specs.declared.seat.Seat.{Seat}
 use Rattle.poll_loop.specs.declared.settings.Settings.{Settings}
-use Rattle.poll_loop.proofs.Compose.{
-  follows_trans,
-  go_nowhere,
-  go_on,
-  heard_then,
-  spoke_behind,
-  steps_within,
-}
+use Rattle.poll_loop.proofs.Compose.{follows_trans, go_nowhere, go_on, heard_then, spoke_behind}
+use Rattle.poll_loop.proofs.Compose.{steps_within}
 
 -- ---- one channel
 

@@ -1,43 +1,11 @@
 -- Accepting connections.
-use Rattle.std.proofs.Common.{
-  ◌≡◌,
-  ◌≤◌,
-  ◌+◌,
-  ◌-◌,
-  ◌<◌,
-  ◌⊎◌,
-  inl,
-  inr,
-  ℕ,
-  zero,
-  suc,
-  Bool,
-  true,
-  false,
-  IsTrue,
-  List,
-  [],
-  ◌∷◌,
-  ◌++◌,
-  length,
-  refl,
-  ap,
-  sym,
-  subst,
-  ◌∙◌,
-  arith,
-  append_assoc,
-  append-nil,
-  length-append,
-  ltb-true,
-}
+use Rattle.std.proofs.Common.{◌≡◌, ◌≤◌, ◌+◌, ◌-◌, ◌<◌, ◌⊎◌, inl, inr, ℕ, zero, suc, Bool, true}
+use Rattle.std.proofs.Common.{false, IsTrue, List, [], ◌∷◌, ◌++◌, length, refl, ap, sym, subst, ◌∙◌}
+use Rattle.std.proofs.Common.{arith, append_assoc, append-nil, length-append, ltb-true}
 use Rattle.std.specs.Prelude.{◌&&◌, nat_lt, IsPermutation, Option, Some, None}
 use Rattle.std.proofs.lemmas.List.{length-map, map-append}
-use Rattle.std.proofs.lemmas.List.Sorted.{
-  IsPermutation-append_comm,
-  IsPermutation-refl,
-  length_permutation,
-}
+use Rattle.std.proofs.lemmas.List.Sorted.{IsPermutation-append_comm, IsPermutation-refl}
+use Rattle.std.proofs.lemmas.List.Sorted.{length_permutation}
 use Rattle.channel.specs.Output.{IsPrefix}
 use Rattle.channel.specs.Views.{Stirs, View, fresh, is_done, is_due, telling, want_of}
 use Rattle.channel.specs.declared.types.Window.{Window}
@@ -49,25 +17,10 @@ use Rattle.outside.specs.declared.types.End.TheVariants as over
 use Rattle.outside.specs.declared.types.Peer.{Peer}
 use Rattle.outside.specs.declared.types.Want.{Want}
 use Rattle.poll_loop.specs.Accounts.{Accounts, Books, TimeGoesOn, books, retired_of}
-use Rattle.poll_loop.specs.Connections.{
-  CameAll,
-  CameBy,
-  CameMore,
-  CameUntil,
-  SamePolls,
-  SeatsOne,
-  Takes,
-  seated,
-}
-use Rattle.poll_loop.specs.Entries.{
-  EntryHolds,
-  Grounds,
-  IsTimely,
-  IsWithin,
-  Service,
-  app_faults,
-  spill_faults,
-}
+use Rattle.poll_loop.specs.Connections.{CameAll, CameBy, CameMore, CameUntil, SamePolls, SeatsOne}
+use Rattle.poll_loop.specs.Connections.{Takes, seated}
+use Rattle.poll_loop.specs.Entries.{EntryHolds, Grounds, IsTimely, IsWithin, Service, app_faults}
+use Rattle.poll_loop.specs.Entries.{spill_faults}
 use Rattle.poll_loop.specs.Seat.{Eyes, SeatHolds, viewed}
 use Rattle.poll_loop.specs.Settings.{fixed_by, is_below}
 use Rattle.poll_loop.specs.declared.connections.Came.{Came}
@@ -75,13 +28,8 @@ use Rattle.poll_loop.specs.declared.connections.Came.TheVariants as came
 use Rattle.poll_loop.specs.declared.seat.Mark.TheVariants as mark
 use Rattle.poll_loop.specs.declared.seat.Seat.{Seat}
 use Rattle.poll_loop.specs.declared.settings.Settings.{Settings}
-use Rattle.poll_loop.proofs.Books.{
-  accounts_none,
-  accounts_refl,
-  accounts_trans,
-  each_append,
-  time_same,
-}
+use Rattle.poll_loop.proofs.Books.{accounts_none, accounts_refl, accounts_trans, each_append}
+use Rattle.poll_loop.proofs.Books.{time_same}
 
 -- a new channel rests
 seat_fresh : (now : ℕ) (w : Window) (want : Want) (v : View) → v.shown ≡ fresh now →

@@ -1,25 +1,6 @@
 -- How what the calls of a turn do composes.
-use Rattle.std.proofs.Common.{
-  ◌≡◌,
-  ◌≤◌,
-  ◌<◌,
-  ◌+◌,
-  ◌++◌,
-  inl,
-  inr,
-  ℕ,
-  [],
-  Bool,
-  IsSome,
-  refl,
-  ap,
-  sym,
-  subst,
-  ◌∙◌,
-  arith,
-  length,
-  append_assoc,
-}
+use Rattle.std.proofs.Common.{◌≡◌, ◌≤◌, ◌<◌, ◌+◌, ◌++◌, inl, inr, ℕ, [], Bool, IsSome, refl, ap}
+use Rattle.std.proofs.Common.{sym, subst, ◌∙◌, arith, length, append_assoc}
 use Rattle.std.proofs.lemmas.List.{map-append, append-nil}
 use Rattle.outside.specs.Causes.{Rose}
 use Rattle.outside.specs.Link.{LinkState, stamped}

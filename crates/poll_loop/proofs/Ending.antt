@@ -1,68 +1,21 @@
 -- How a turn ends serving, and how turns add up.
-use Rattle.std.proofs.Common.{
-  ◌≡◌,
-  ◌≤◌,
-  ◌+◌,
-  ℕ,
-  false,
-  IsTrue,
-  List,
-  [],
-  ◌∷◌,
-  ◌++◌,
-  length,
-  Option,
-  None,
-  Some,
-  inl,
-  inr,
-  refl,
-  ap,
-  sym,
-  subst,
-  ◌∙◌,
-  arith,
-  append_assoc,
-  append-nil,
-  length-append,
-}
+use Rattle.std.proofs.Common.{◌≡◌, ◌≤◌, ◌+◌, ℕ, false, IsTrue, List, [], ◌∷◌, ◌++◌, length, Option}
+use Rattle.std.proofs.Common.{None, Some, inl, inr, refl, ap, sym, subst, ◌∙◌, arith, append_assoc}
+use Rattle.std.proofs.Common.{append-nil, length-append}
 use Rattle.std.specs.Prelude.{◌⊎◌, IsPermutation, map, Result, Ok, Err}
-use Rattle.std.proofs.lemmas.List.Sorted.{
-  IsPermutation-append_right,
-  IsPermutation-trans,
-  length_permutation,
-}
+use Rattle.std.proofs.lemmas.List.Sorted.{IsPermutation-append_right, IsPermutation-trans}
+use Rattle.std.proofs.lemmas.List.Sorted.{length_permutation}
 use Rattle.channel.specs.Output.{Script}
 use Rattle.channel.specs.Views.{Seen, Telling}
 use Rattle.outside.specs.Causes.{Rose, added}
 use Rattle.outside.specs.Net.{NetState}
 use Rattle.outside.specs.declared.retired.Retired.{Retired}
 use Rattle.outside.specs.declared.types.Peer.{Peer}
-use Rattle.poll_loop.specs.Accounts.{
-  Accounts,
-  Books,
-  books,
-  IsMet,
-  IsShutDown,
-  LastKnows,
-  NobodyShut,
-  ServeCause,
-  ServeEnds,
-  Served,
-  Stops,
-  TimeGoesOn,
-  retired_of,
-}
-use Rattle.poll_loop.specs.Connections.{
-  CameMore,
-  HasBroken,
-  SeatIsTimely,
-  ShutsDown,
-  going_on,
-  seated,
-  service_by,
-  shutting_down,
-}
+use Rattle.poll_loop.specs.Accounts.{Accounts, Books, books, IsMet, IsShutDown, LastKnows}
+use Rattle.poll_loop.specs.Accounts.{NobodyShut, ServeCause, ServeEnds, Served, Stops, TimeGoesOn}
+use Rattle.poll_loop.specs.Accounts.{retired_of}
+use Rattle.poll_loop.specs.Connections.{CameMore, HasBroken, SeatIsTimely, ShutsDown, going_on}
+use Rattle.poll_loop.specs.Connections.{seated, service_by, shutting_down}
 use Rattle.poll_loop.specs.Entries.{EntryHolds, IsTimely, app_faults, spill_faults}
 use Rattle.poll_loop.specs.Lists.{EachIs}
 use Rattle.poll_loop.specs.Seat.{Eyes}
@@ -74,20 +27,9 @@ use Rattle.poll_loop.specs.declared.settings.ServeFault.{ServeFault}
 use Rattle.poll_loop.specs.declared.settings.Settings.{Settings}
 use Rattle.poll_loop.specs.declared.turning.Why.{Why}
 use Rattle.poll_loop.specs.declared.turning.Why.TheVariants as why
-use Rattle.poll_loop.proofs.Books.{
-  accounts_refl,
-  accounts_trans,
-  app_faults_append,
-  each_append,
-  each_map,
-  entry_holds_later,
-  open_trans,
-  retired_of_append,
-  spill_faults_append,
-  spilled_more,
-  time_same,
-  time_trans,
-}
+use Rattle.poll_loop.proofs.Books.{accounts_refl, accounts_trans, app_faults_append, each_append}
+use Rattle.poll_loop.proofs.Books.{each_map, entry_holds_later, open_trans, retired_of_append}
+use Rattle.poll_loop.proofs.Books.{spill_faults_append, spilled_more, time_same, time_trans}
 
 -- ---- those that are open
 

@@ -1,25 +1,6 @@
 -- An entry holds for as long as time goes on.
-use Rattle.std.proofs.Common.{
-  ◌≡◌,
-  ◌<◌,
-  ℕ,
-  Bool,
-  true,
-  false,
-  IsTrue,
-  List,
-  [],
-  ◌∷◌,
-  ◌++◌,
-  Option,
-  None,
-  Some,
-  refl,
-  subst,
-  arith,
-  cond,
-  length,
-}
+use Rattle.std.proofs.Common.{◌≡◌, ◌<◌, ℕ, Bool, true, false, IsTrue, List, [], ◌∷◌, ◌++◌, Option}
+use Rattle.std.proofs.Common.{None, Some, refl, subst, arith, cond, length}
 use Rattle.channel.specs.Output.{IsPrefix, Script}
 use Rattle.channel.specs.Owed.{owed_by}
 use Rattle.channel.specs.Views.{Counted, Counts, EndsBy, Owed, Rest, Telling}
@@ -32,18 +13,8 @@ use Rattle.outside.specs.declared.types.End.TheVariants as over
 use Rattle.outside.specs.declared.types.Peer.{Peer}
 use Rattle.poll_loop.specs.Accounts.{TimeGoesOn}
 use Rattle.poll_loop.specs.Connections.{HasBroken, going_on, service_by, shutting_down}
-use Rattle.poll_loop.specs.Entries.{
-  EndHolds,
-  EntryHolds,
-  Grounds,
-  IsTimely,
-  IsWithin,
-  Service,
-  app_faults,
-  is_app_fault,
-  is_spill_fault,
-  spill_faults,
-}
+use Rattle.poll_loop.specs.Entries.{EndHolds, EntryHolds, Grounds, IsTimely, IsWithin, Service}
+use Rattle.poll_loop.specs.Entries.{app_faults, is_app_fault, is_spill_fault, spill_faults}
 use Rattle.poll_loop.specs.Lists.{EachIs}
 use Rattle.poll_loop.specs.Seat.{BearsMoment}
 use Rattle.poll_loop.specs.Settings.{fixed_by}

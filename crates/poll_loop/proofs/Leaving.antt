@@ -1,65 +1,20 @@
 -- What a turn leaves of one connection.
-use Rattle.std.proofs.Common.{
-  ◌≡◌,
-  ◌≤◌,
-  inr,
-  ℕ,
-  List,
-  [],
-  ◌∷◌,
-  Bool,
-  true,
-  false,
-  IsTrue,
-  nat_lt,
-  refl,
-  ap,
-  sym,
-  subst,
-  ◌∙◌,
-  arith,
-  length,
-}
+use Rattle.std.proofs.Common.{◌≡◌, ◌≤◌, inr, ℕ, List, [], ◌∷◌, Bool, true, false, IsTrue, nat_lt}
+use Rattle.std.proofs.Common.{refl, ap, sym, subst, ◌∙◌, arith, length}
 use Rattle.outside.specs.Net.{asked_of}
 use Rattle.outside.specs.declared.types.Want.{Want}
 use Rattle.channel.specs.Views.{Shown, View, is_due, is_writable, want_of}
 use Rattle.channel.specs.declared.types.Window.{Window}
 use Rattle.poll_loop.specs.Lists.{Both, EachIs, Paired, UpTo}
-use Rattle.poll_loop.specs.Seat.{
-  Attends,
-  Eyes,
-  Follows,
-  Goes,
-  Hears,
-  IsCalled,
-  IsUncalled,
-  IsUp,
-  Labours,
-  MarkHolds,
-  OverOrHolds,
-  OverOrMarked,
-  Passes,
-  SeatAsks,
-  SeatChecks,
-  SeatHolds,
-  SeatOut,
-  SeatRests,
-  SeatTurns,
-  Speaks,
-  Strides,
-  is_open,
-  viewed,
-}
+use Rattle.poll_loop.specs.Seat.{Attends, Eyes, Follows, Goes, Hears, IsCalled, IsUncalled, IsUp}
+use Rattle.poll_loop.specs.Seat.{Labours, MarkHolds, OverOrHolds, OverOrMarked, Passes, SeatAsks}
+use Rattle.poll_loop.specs.Seat.{SeatChecks, SeatHolds, SeatOut, SeatRests, SeatTurns, Speaks}
+use Rattle.poll_loop.specs.Seat.{Strides, is_open, viewed}
 use Rattle.poll_loop.specs.declared.seat.Mark.{Mark}
 use Rattle.poll_loop.specs.declared.seat.Mark.TheVariants as mark
 use Rattle.poll_loop.specs.declared.seat.Seat.{Seat}
-use Rattle.poll_loop.proofs.Compose.{
-  follows_trans,
-  go_nowhere,
-  heard_then,
-  spoke_behind,
-  steps_within,
-}
+use Rattle.poll_loop.proofs.Compose.{follows_trans, go_nowhere, heard_then, spoke_behind}
+use Rattle.poll_loop.proofs.Compose.{steps_within}
 use Rattle.poll_loop.proofs.UpTo.{both_same}
 
 longer_writable : (m n : ℕ) → m ≤ n → IsTrue (nat_lt 0 m) → IsTrue (nat_lt 0 n)

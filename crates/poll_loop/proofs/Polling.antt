@@ -1,35 +1,7 @@
 -- What a poll leaves, and a turn with its poll.
-use Rattle.std.proofs.Common.{
-  ◌≡◌,
-  ◌≤◌,
-  ◌+◌,
-  ◌-◌,
-  ◌⊎◌,
-  ◌||◌,
-  inl,
-  inr,
-  ℕ,
-  Bool,
-  true,
-  false,
-  List,
-  [],
-  ◌∷◌,
-  ◌++◌,
-  Option,
-  None,
-  Some,
-  refl,
-  ap,
-  sym,
-  subst,
-  ◌∙◌,
-  arith,
-  length,
-  map,
-  take,
-  drop,
-}
+use Rattle.std.proofs.Common.{◌≡◌, ◌≤◌, ◌+◌, ◌-◌, ◌⊎◌, ◌||◌, inl, inr, ℕ, Bool, true, false, List}
+use Rattle.std.proofs.Common.{[], ◌∷◌, ◌++◌, Option, None, Some, refl, ap, sym, subst, ◌∙◌, arith}
+use Rattle.std.proofs.Common.{length, map, take, drop}
 use Rattle.std.specs.Prelude.{unwrap_or}
 use Rattle.std.specs.List.{list_any}
 use Rattle.std.proofs.lemmas.List.{drop-map, map-append, take-append-drop, take-map}
@@ -45,16 +17,8 @@ use Rattle.channel.specs.declared.types.Window.{Window}
 use Rattle.poll_loop.specs.Accounts.{Accounts, Books, LastKnows, TimeGoesOn, books}
 use Rattle.poll_loop.specs.Connections.{CameMore, Gathers, IsAsked, IsNow, works}
 use Rattle.poll_loop.specs.Lists.{EachIs}
-use Rattle.poll_loop.specs.NoIdle.{
-  AsksNothing,
-  Hosts,
-  NoIdle,
-  Nudges,
-  Serving,
-  is_accepting,
-  is_some_due,
-  views,
-}
+use Rattle.poll_loop.specs.NoIdle.{AsksNothing, Hosts, NoIdle, Nudges, Serving, is_accepting}
+use Rattle.poll_loop.specs.NoIdle.{is_some_due, views}
 use Rattle.poll_loop.specs.Seat.{Eyes, MarkHolds, SeatRests, viewed}
 use Rattle.poll_loop.specs.Server.{Carries, StepEnds, Steps}
 use Rattle.poll_loop.specs.Settings.{is_below}

@@ -1,52 +1,15 @@
 -- Retiring one connection, and all that are over.
-use Rattle.std.proofs.Common.{
-  ◌≡◌,
-  ◌≤◌,
-  ◌<◌,
-  ◌+◌,
-  ◌-◌,
-  ◌⊎◌,
-  ℕ,
-  Bool,
-  true,
-  false,
-  IsTrue,
-  List,
-  [],
-  ◌∷◌,
-  ◌++◌,
-  Option,
-  None,
-  Some,
-  refl,
-  ap,
-  sym,
-  subst,
-  ◌∙◌,
-  arith,
-  cond,
-  length,
-  max,
-  min,
-  inl,
-  inr,
-  append_assoc,
-  append-nil,
-  length-append,
-}
+use Rattle.std.proofs.Common.{◌≡◌, ◌≤◌, ◌<◌, ◌+◌, ◌-◌, ◌⊎◌, ℕ, Bool, true, false, IsTrue, List, []}
+use Rattle.std.proofs.Common.{◌∷◌, ◌++◌, Option, None, Some, refl, ap, sym, subst, ◌∙◌, arith, cond}
+use Rattle.std.proofs.Common.{length, max, min, inl, inr, append_assoc, append-nil, length-append}
 use Rattle.std.specs.Prelude.{filter}
 use Rattle.std.specs.List.{All}
 use Rattle.std.proofs.lemmas.List.{map-append}
 use Rattle.std.proofs.lemmas.List.Elements.{All-push, filter-append}
 use Rattle.std.specs.List.Sorted.{IsPermutation}
-use Rattle.std.proofs.lemmas.List.Sorted.{
-  IsPermutation-append,
-  IsPermutation-append_comm,
-  IsPermutation-append_left,
-  IsPermutation-append_right,
-  IsPermutation-refl,
-  IsPermutation-trans,
-}
+use Rattle.std.proofs.lemmas.List.Sorted.{IsPermutation-append, IsPermutation-append_comm}
+use Rattle.std.proofs.lemmas.List.Sorted.{IsPermutation-append_left, IsPermutation-append_right}
+use Rattle.std.proofs.lemmas.List.Sorted.{IsPermutation-refl, IsPermutation-trans}
 use Rattle.channel.specs.Views.{Counted, Counts, EndsBy, Rest, Telling}
 use Rattle.channel.specs.Output.{IsPrefix, Script}
 use Rattle.channel.specs.Owed.{owed_by}
@@ -60,26 +23,14 @@ use Rattle.outside.specs.declared.types.End.TheVariants as over
 use Rattle.outside.specs.declared.types.Peer.{Peer}
 use Rattle.poll_loop.specs.Accounts.{Accounts, TimeGoesOn, books, retired_of}
 use Rattle.poll_loop.specs.Connections.{HasBroken, going_on, service_by}
-use Rattle.poll_loop.specs.Entries.{
-  EntryHolds,
-  IsTimely,
-  app_faults,
-  is_app_fault,
-  is_spill_fault,
-  spill_faults,
-}
+use Rattle.poll_loop.specs.Entries.{EntryHolds, IsTimely, app_faults, is_app_fault, is_spill_fault}
+use Rattle.poll_loop.specs.Entries.{spill_faults}
 use Rattle.poll_loop.specs.Retiring.{Keeps, PutsRun, Settles}
 use Rattle.poll_loop.specs.Seat.{BearsMoment}
 use Rattle.poll_loop.specs.Settings.{fixed_by}
 use Rattle.poll_loop.specs.declared.settings.Settings.{Settings}
-use Rattle.poll_loop.proofs.Entries.{
-  app_one,
-  closed_entry,
-  each_append,
-  each_by,
-  spill_one,
-  timely_goes_on,
-}
+use Rattle.poll_loop.proofs.Entries.{app_one, closed_entry, each_append, each_by, spill_one}
+use Rattle.poll_loop.proofs.Entries.{timely_goes_on}
 
 -- ---- counts of spills
 

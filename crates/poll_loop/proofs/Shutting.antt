@@ -1,37 +1,12 @@
 -- Shutting down those that are open, one after the other.
-use Rattle.std.proofs.Common.{
-  ◌≡◌,
-  ◌≤◌,
-  ◌<◌,
-  ◌+◌,
-  ◌-◌,
-  ℕ,
-  Bool,
-  IsTrue,
-  List,
-  [],
-  ◌∷◌,
-  ◌++◌,
-  refl,
-  ap,
-  sym,
-  subst,
-  ◌∙◌,
-  arith,
-  length,
-  append_assoc,
-  append-nil,
-  length-append,
-  slice_index_or,
-}
+use Rattle.std.proofs.Common.{◌≡◌, ◌≤◌, ◌<◌, ◌+◌, ◌-◌, ℕ, Bool, IsTrue, List, [], ◌∷◌, ◌++◌, refl}
+use Rattle.std.proofs.Common.{ap, sym, subst, ◌∙◌, arith, length, append_assoc, append-nil}
+use Rattle.std.proofs.Common.{length-append, slice_index_or}
 use Rattle.std.specs.Prelude.{remove}
 use Rattle.std.proofs.lemmas.List.{map-append}
 use Rattle.std.specs.List.Sorted.{IsPermutation}
-use Rattle.std.proofs.lemmas.List.Sorted.{
-  IsPermutation-append,
-  IsPermutation-refl,
-  length_permutation,
-}
+use Rattle.std.proofs.lemmas.List.Sorted.{IsPermutation-append, IsPermutation-refl}
+use Rattle.std.proofs.lemmas.List.Sorted.{length_permutation}
 use Rattle.channel.specs.Output.{IsPrefix, Script}
 use Rattle.channel.specs.Owed.{owed_by}
 use Rattle.channel.specs.Views.{Telling}
@@ -42,14 +17,8 @@ use Rattle.outside.specs.declared.retired.Retired.{Retired}
 use Rattle.outside.specs.declared.types.End.TheVariants as over
 use Rattle.outside.specs.declared.types.Peer.{Peer}
 use Rattle.poll_loop.specs.Accounts.{IsShutDown, TimeGoesOn, retired_of}
-use Rattle.poll_loop.specs.Connections.{
-  HasBroken,
-  SeatIsTimely,
-  ShutsDown,
-  seated,
-  service_by,
-  shutting_down,
-}
+use Rattle.poll_loop.specs.Connections.{HasBroken, SeatIsTimely, ShutsDown, seated, service_by}
+use Rattle.poll_loop.specs.Connections.{shutting_down}
 use Rattle.poll_loop.specs.Entries.{EntryHolds, IsTimely}
 use Rattle.poll_loop.specs.Lists.{EachIs}
 use Rattle.poll_loop.specs.Seat.{Eyes}

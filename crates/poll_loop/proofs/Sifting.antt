@@ -1,34 +1,7 @@
 -- Retiring those that are over, one after the other.
-use Rattle.std.proofs.Common.{
-  ◌≡◌,
-  ◌≤◌,
-  ◌<◌,
-  ◌+◌,
-  ◌-◌,
-  ℕ,
-  Bool,
-  true,
-  false,
-  IsTrue,
-  List,
-  [],
-  ◌∷◌,
-  ◌++◌,
-  Option,
-  None,
-  Some,
-  refl,
-  ap,
-  sym,
-  subst,
-  ◌∙◌,
-  arith,
-  length,
-  slice_index_or,
-  append_assoc,
-  append-nil,
-  length-append,
-}
+use Rattle.std.proofs.Common.{◌≡◌, ◌≤◌, ◌<◌, ◌+◌, ◌-◌, ℕ, Bool, true, false, IsTrue, List, [], ◌∷◌}
+use Rattle.std.proofs.Common.{◌++◌, Option, None, Some, refl, ap, sym, subst, ◌∙◌, arith, length}
+use Rattle.std.proofs.Common.{slice_index_or, append_assoc, append-nil, length-append}
 use Rattle.std.specs.Prelude.{filter, remove}
 use Rattle.std.proofs.lemmas.List.{map-append}
 use Rattle.std.proofs.lemmas.List.Edits.{remove-append_right}

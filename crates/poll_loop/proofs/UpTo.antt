@@ -1,21 +1,6 @@
 -- Lists that are changed from the front, one item after the other.
-use Rattle.std.proofs.Common.{
-  ◌≤◌,
-  ◌≡◌,
-  ◌<◌,
-  ℕ,
-  zero,
-  suc,
-  List,
-  [],
-  ◌∷◌,
-  refl,
-  ap,
-  arith,
-  length,
-  slice_index_or,
-  slice_set,
-}
+use Rattle.std.proofs.Common.{◌≤◌, ◌≡◌, ◌<◌, ℕ, zero, suc, List, [], ◌∷◌, refl, ap, arith, length}
+use Rattle.std.proofs.Common.{slice_index_or, slice_set}
 use Rattle.poll_loop.specs.Lists.{Both, EachIs, Paired, UpTo}
 
 pub paired_at : {W X : Type 0} (R : W → X → Type 0) (i : ℕ) (ws : List W) (xs : List X) (w : W)

@@ -1,23 +1,6 @@
 -- What a turn leaves of the server behind its connections' parts.
-use Rattle.std.proofs.Common.{
-  ◌≡◌,
-  ◌≤◌,
-  ℕ,
-  Bool,
-  true,
-  false,
-  IsTrue,
-  List,
-  [],
-  ◌∷◌,
-  refl,
-  ap,
-  subst,
-  arith,
-  length,
-  map,
-  filter,
-}
+use Rattle.std.proofs.Common.{◌≡◌, ◌≤◌, ℕ, Bool, true, false, IsTrue, List, [], ◌∷◌, refl, ap}
+use Rattle.std.proofs.Common.{subst, arith, length, map, filter}
 use Rattle.outside.specs.Net.{NetState}
 use Rattle.outside.specs.declared.retired.Retired.{Retired}
 use Rattle.outside.specs.declared.types.Peer.{Peer}

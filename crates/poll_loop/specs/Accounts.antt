@@ -1,24 +1,6 @@
 -- What serving leaves of the net: who came, who was retired, and who is open.
-use Rattle.std.specs.Prelude.{
-  ◌≡◌,
-  ◌≤◌,
-  ◌+◌,
-  ◌-◌,
-  ◌⊎◌,
-  ℕ,
-  IsTrue,
-  List,
-  [],
-  ◌++◌,
-  length,
-  map,
-  Option,
-  Some,
-  Result,
-  Ok,
-  Err,
-  IsPermutation,
-}
+use Rattle.std.specs.Prelude.{◌≡◌, ◌≤◌, ◌+◌, ◌-◌, ◌⊎◌, ℕ, IsTrue, List, [], ◌++◌, length, map}
+use Rattle.std.specs.Prelude.{Option, Some, Result, Ok, Err, IsPermutation}
 use Rattle.outside.specs.Causes.{Rose, added}
 use Rattle.outside.specs.Net.{NetState, Poll, last_moment}
 use Rattle.outside.specs.declared.retired.Retired.{Retired}

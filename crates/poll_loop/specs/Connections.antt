@@ -1,27 +1,6 @@
 -- Internal: what the parts of a turn do to the connections.
-use Rattle.std.specs.Prelude.{
-  ◌≡◌,
-  ◌≤◌,
-  ◌<◌,
-  ◌+◌,
-  ◌⊎◌,
-  ℕ,
-  Bool,
-  true,
-  false,
-  IsTrue,
-  List,
-  [],
-  ◌∷◌,
-  ◌++◌,
-  length,
-  map,
-  take,
-  Option,
-  None,
-  Some,
-  IsPermutation,
-}
+use Rattle.std.specs.Prelude.{◌≡◌, ◌≤◌, ◌<◌, ◌+◌, ◌⊎◌, ℕ, Bool, true, false, IsTrue, List, [], ◌∷◌}
+use Rattle.std.specs.Prelude.{◌++◌, length, map, take, Option, None, Some, IsPermutation}
 use Rattle.std.specs.List.{list_any}
 use Rattle.channel.specs.Owed.{owed_by}
 use Rattle.channel.specs.Output.{Script}

@@ -1,18 +1,6 @@
 -- What a server owes to each connection that it retired.
-use Rattle.std.specs.Prelude.{
-  ◌≡◌,
-  ◌≤◌,
-  ◌<◌,
-  ℕ,
-  Bool,
-  IsTrue,
-  true,
-  false,
-  List,
-  length,
-  filter,
-  Some,
-}
+use Rattle.std.specs.Prelude.{◌≡◌, ◌≤◌, ◌<◌, ℕ, Bool, IsTrue, true, false, List, length, filter}
+use Rattle.std.specs.Prelude.{Some}
 use Rattle.channel.specs.Output.{Input, IsPrefix}
 use Rattle.channel.specs.Views.{IsServed, Owed, Telling, WaitedTooLong}
 use Rattle.outside.specs.Link.{LinkState}

@@ -1,48 +1,10 @@
 -- No turn is idle: what a turn does that lets serving go on.
-use Rattle.std.specs.Prelude.{
-  ◌≡◌,
-  ◌≤◌,
-  ◌<◌,
-  ◌+◌,
-  ◌⊎◌,
-  ◌&&◌,
-  ℕ,
-  Bool,
-  true,
-  false,
-  IsTrue,
-  List,
-  [],
-  ◌∷◌,
-  ◌++◌,
-  length,
-  map,
-  nat_le,
-  nat_lt,
-  Option,
-  None,
-  Some,
-  IfSome,
-  if◌then◌else◌,
-}
+use Rattle.std.specs.Prelude.{◌≡◌, ◌≤◌, ◌<◌, ◌+◌, ◌⊎◌, ◌&&◌, ℕ, Bool, true, false, IsTrue, List, []}
+use Rattle.std.specs.Prelude.{◌∷◌, ◌++◌, length, map, nat_le, nat_lt, Option, None, Some, IfSome}
+use Rattle.std.specs.Prelude.{if◌then◌else◌}
 use Rattle.std.specs.List.{list_any}
-use Rattle.channel.specs.Views.{
-  Heard,
-  LinkGoes,
-  Moves,
-  Seen,
-  Spoke,
-  Stamps,
-  Steps,
-  Stirs,
-  View,
-  fresh,
-  is_done,
-  is_due,
-  is_late,
-  is_writable,
-  want_of,
-}
+use Rattle.channel.specs.Views.{Heard, LinkGoes, Moves, Seen, Spoke, Stamps, Steps, Stirs, View}
+use Rattle.channel.specs.Views.{fresh, is_done, is_due, is_late, is_writable, want_of}
 use Rattle.channel.specs.declared.types.Window.{Window}
 use Rattle.outside.specs.Causes.{Rose, raised}
 use Rattle.outside.specs.Link.{opened}

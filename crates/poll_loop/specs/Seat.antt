@@ -1,39 +1,8 @@
 -- Internal: what a turn does to one connection.
-use Rattle.std.specs.Prelude.{
-  ◌≡◌,
-  ◌≤◌,
-  ◌&&◌,
-  ◌⊎◌,
-  ℕ,
-  List,
-  length,
-  Bool,
-  true,
-  false,
-  IsTrue,
-  Option,
-  None,
-  Some,
-}
-use Rattle.channel.specs.Views.{
-  Heard,
-  LinkGoes,
-  Moves,
-  Seen,
-  Shown,
-  Spoke,
-  Stamps,
-  Steps,
-  Stirs,
-  View,
-  is_done,
-  is_due,
-  is_late,
-  is_writable,
-  over_of,
-  view,
-  want_of,
-}
+use Rattle.std.specs.Prelude.{◌≡◌, ◌≤◌, ◌&&◌, ◌⊎◌, ℕ, List, length, Bool, true, false, IsTrue}
+use Rattle.std.specs.Prelude.{Option, None, Some}
+use Rattle.channel.specs.Views.{Heard, LinkGoes, Moves, Seen, Shown, Spoke, Stamps, Steps, Stirs}
+use Rattle.channel.specs.Views.{View, is_done, is_due, is_late, is_writable, over_of, view, want_of}
 use Rattle.channel.specs.declared.types.Window.{Window}
 use Rattle.outside.specs.Link.{LinkState}
 use Rattle.outside.specs.Net.{asked_of}

@@ -1,29 +1,7 @@
 -- A server between two turns.
-use Rattle.std.specs.Prelude.{
-  ◌≡◌,
-  ◌≤◌,
-  ◌<◌,
-  ◌+◌,
-  ◌⊎◌,
-  ℕ,
-  All,
-  IsTrue,
-  List,
-  [],
-  false,
-  ◌++◌,
-  filter,
-  length,
-  map,
-  nat_le,
-  vec_capacity,
-  Option,
-  None,
-  Some,
-  Result,
-  Ok,
-  Err,
-}
+use Rattle.std.specs.Prelude.{◌≡◌, ◌≤◌, ◌<◌, ◌+◌, ◌⊎◌, ℕ, All, IsTrue, List, [], false, ◌++◌}
+use Rattle.std.specs.Prelude.{filter, length, map, nat_le, vec_capacity, Option, None, Some, Result}
+use Rattle.std.specs.Prelude.{Ok, Err}
 use Rattle.channel.specs.Views.{View, is_late}
 use Rattle.outside.specs.Causes.{Rose}
 use Rattle.outside.specs.Net.{NetState}
@@ -34,18 +12,8 @@ use Rattle.outside.specs.declared.retired.Retired.{Retired}
 use Rattle.poll_loop.specs.Accounts.{Accounts, Books, IsMet, LastKnows, ServeCause, Stops, books}
 use Rattle.poll_loop.specs.Connections.{CameMore, Counted, IsOpenedBy, SamePolls, is_kept}
 use Rattle.poll_loop.specs.Lists.{EachIs}
-use Rattle.poll_loop.specs.NoIdle.{
-  Answers,
-  Asks,
-  Case,
-  IsFresh,
-  Serving,
-  checked_after,
-  checked_by,
-  kept,
-  views,
-  who,
-}
+use Rattle.poll_loop.specs.NoIdle.{Answers, Asks, Case, IsFresh, Serving, checked_after, checked_by}
+use Rattle.poll_loop.specs.NoIdle.{kept, views, who}
 use Rattle.poll_loop.specs.Seat.{Eyes, Labours, SeatRests}
 use Rattle.poll_loop.specs.Settings.{AreUsable, is_below}
 use Rattle.poll_loop.specs.declared.seat.Seat.{Seat}

@@ -1,40 +1,11 @@
 //! From an accept to a seat.
-ghost use Rattle.std.specs.Prelude.{
-  ◌≡◌,
-  ◌≤◌,
-  ◌<◌,
-  ◌+◌,
-  ◌&&◌,
-  ◌-◌,
-  ◌^◌,
-  false,
-  IsTrue,
-  IsSome,
-  IfNone,
-  IfErr,
-  OnOk,
-  OnErr,
-  length,
-  nat_lt,
-  vec_capacity,
-};
+ghost use Rattle.std.specs.Prelude.{◌≡◌, ◌≤◌, ◌<◌, ◌+◌, ◌&&◌, ◌-◌, ◌^◌, false, IsTrue, IsSome};
+ghost use Rattle.std.specs.Prelude.{IfNone, IfErr, OnOk, OnErr, length, nat_lt, vec_capacity};
 ghost use Rattle.outside.specs.Link.{opened};
 ghost use Rattle.poll_loop.specs.Accounts.{Accounts, books};
-ghost use Rattle.poll_loop.specs.Connections.{
-  AcceptsAll,
-  CameAll,
-  CameBy,
-  CameCause,
-  CameMore,
-  CameUntil,
-  Counted,
-  FaultCause,
-  SamePolls,
-  SeatsOne,
-  Takes,
-  holds_on,
-  seated,
-};
+ghost use Rattle.poll_loop.specs.Connections.{AcceptsAll, CameAll, CameBy, CameCause, CameMore};
+ghost use Rattle.poll_loop.specs.Connections.{CameUntil, Counted, FaultCause, SamePolls, SeatsOne};
+ghost use Rattle.poll_loop.specs.Connections.{Takes, holds_on, seated};
 ghost use Rattle.poll_loop.specs.Entries.{IsWithin};
 ghost use Rattle.poll_loop.specs.NoIdle.{Answers};
 ghost use Rattle.poll_loop.specs.Seat.{eyes_of};

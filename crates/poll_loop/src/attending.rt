@@ -1,15 +1,8 @@
 //! The part of a turn that is each connection's own.
 ghost use Rattle.std.specs.Prelude.{◌≡◌, length};
 ghost use Rattle.poll_loop.specs.Lists.{Both, EachIs, Paired, UpTo};
-ghost use Rattle.poll_loop.specs.Seat.{
-  Labours,
-  SeatAsks,
-  SeatChecks,
-  SeatOut,
-  SeatRests,
-  SeatTurns,
-  eyes_of,
-};
+ghost use Rattle.poll_loop.specs.Seat.{Labours, SeatAsks, SeatChecks, SeatOut, SeatRests};
+ghost use Rattle.poll_loop.specs.Seat.{SeatTurns, eyes_of};
 
 use crate::seat::Seat;
 use channel::Window;

@@ -1,32 +1,11 @@
 //! From a seat to the entry of a connection that was retired.
-ghost use Rattle.std.specs.Prelude.{
-  ◌≡◌,
-  ◌≤◌,
-  ◌<◌,
-  ◌+◌,
-  IsTrue,
-  [],
-  ◌∷◌,
-  All,
-  Some,
-  length,
-  filter,
-  vec_capacity,
-};
+ghost use Rattle.std.specs.Prelude.{◌≡◌, ◌≤◌, ◌<◌, ◌+◌, IsTrue, [], ◌∷◌, All, Some, length, filter};
+ghost use Rattle.std.specs.Prelude.{vec_capacity};
 ghost use Rattle.channel.specs.Views.{over_of};
 ghost use Rattle.outside.specs.Net.{last_moment};
 ghost use Rattle.poll_loop.specs.Accounts.{Accounts, books};
-ghost use Rattle.poll_loop.specs.Connections.{
-  Counted,
-  IsOpenedBy,
-  OnlyRetires,
-  SeatIsTimely,
-  ShutsDown,
-  holds_down,
-  holds_on,
-  is_kept,
-  seated,
-};
+ghost use Rattle.poll_loop.specs.Connections.{Counted, IsOpenedBy, OnlyRetires, SeatIsTimely};
+ghost use Rattle.poll_loop.specs.Connections.{ShutsDown, holds_down, holds_on, is_kept, seated};
 ghost use Rattle.poll_loop.specs.Entries.{IsTimely, is_app_fault};
 ghost use Rattle.poll_loop.specs.Lists.{EachIs};
 ghost use Rattle.poll_loop.specs.Retiring.{EndsAt, Keeps, PutsRun, Settles};

@@ -2,26 +2,9 @@
 ghost use Rattle.std.specs.Prelude.{◌≡◌, ◌&&◌, None, false, length};
 ghost use Rattle.outside.specs.Net.{asked_of};
 ghost use Rattle.channel.specs.Views.{want_of};
-ghost use Rattle.poll_loop.specs.Seat.{
-  Attends,
-  DiesAt,
-  Goes,
-  Hears,
-  IsCalled,
-  IsUncalled,
-  IsUp,
-  OverOr,
-  OverOrHolds,
-  OverOrMarked,
-  MarkHolds,
-  Passes,
-  SeatHolds,
-  Speaks,
-  Strides,
-  eyes_of,
-  is_open,
-  viewed,
-};
+ghost use Rattle.poll_loop.specs.Seat.{Attends, DiesAt, Goes, Hears, IsCalled, IsUncalled, IsUp};
+ghost use Rattle.poll_loop.specs.Seat.{OverOr, OverOrHolds, OverOrMarked, MarkHolds, Passes};
+ghost use Rattle.poll_loop.specs.Seat.{SeatHolds, Speaks, Strides, eyes_of, is_open, viewed};
 
 use channel::{Acted, Lane, Progress};
 use outside::{End, Link, Spill, Spills, Want};

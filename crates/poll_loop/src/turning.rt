@@ -1,42 +1,15 @@
 //! One turn.
-ghost use Rattle.std.specs.Prelude.{
-  ◌≡◌,
-  ◌≤◌,
-  ◌+◌,
-  ◌⊎◌,
-  false,
-  IsTrue,
-  OnOk,
-  None,
-  length,
-  nat_le,
-  take,
-};
+ghost use Rattle.std.specs.Prelude.{◌≡◌, ◌≤◌, ◌+◌, ◌⊎◌, false, IsTrue, OnOk, None, length, nat_le};
+ghost use Rattle.std.specs.Prelude.{take};
 ghost use Rattle.outside.specs.Causes.{raised};
 ghost use Rattle.poll_loop.specs.Accounts.{Accounts, LastKnows};
-ghost use Rattle.poll_loop.specs.Connections.{
-  Gathers,
-  IsAsked,
-  IsNow,
-  OnlyRetires,
-  SamePolls,
-  holds_on,
-  works,
-};
+ghost use Rattle.poll_loop.specs.Connections.{Gathers, IsAsked, IsNow, OnlyRetires, SamePolls};
+ghost use Rattle.poll_loop.specs.Connections.{holds_on, works};
 ghost use Rattle.poll_loop.specs.Lists.{Paired};
 ghost use Rattle.poll_loop.specs.NoIdle.{Hosts, NoIdle, checked_by, is_accepting};
 ghost use Rattle.poll_loop.specs.Seat.{SeatAsks, eyes_of};
-ghost use Rattle.poll_loop.specs.Server.{
-  Carries,
-  IsSameServer,
-  Stands,
-  StepCause,
-  Steps,
-  WorksOff,
-  answer_of,
-  booked,
-  serving,
-};
+ghost use Rattle.poll_loop.specs.Server.{Carries, IsSameServer, Stands, StepCause, Steps, WorksOff};
+ghost use Rattle.poll_loop.specs.Server.{answer_of, booked, serving};
 
 use crate::accepting::{Opening, accept_if, accepts, below};
 use crate::attending::{Round, labour_all};

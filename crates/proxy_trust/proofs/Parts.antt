@@ -1,34 +1,8 @@
 -- The last parts of a list, behind references and as they are.
-use Rattle.std.proofs.Common.{
-  ◌≡◌,
-  ◌-◌,
-  ◌≤◌,
-  ℕ,
-  true,
-  false,
-  List,
-  [],
-  ◌∷◌,
-  ◌++◌,
-  length,
-  take,
-  drop,
-  Bor,
-  refl,
-  ap,
-  sym,
-  ◌∙◌,
-}
-use Rattle.std.specs.Prelude.{
-  codes,
-  flat_map,
-  option_and_then,
-  None,
-  Some,
-  map,
-  ◌||◌,
-  if◌then◌else◌,
-}
+use Rattle.std.proofs.Common.{◌≡◌, ◌-◌, ◌≤◌, ℕ, true, false, List, [], ◌∷◌, ◌++◌, length, take}
+use Rattle.std.proofs.Common.{drop, Bor, refl, ap, sym, ◌∙◌}
+use Rattle.std.specs.Prelude.{codes, flat_map, option_and_then, None, Some, map, ◌||◌}
+use Rattle.std.specs.Prelude.{if◌then◌else◌}
 use Rattle.std.specs.List.{list_any}
 use Rattle.std.proofs.lemmas.List.{length-map, drop-map, take_all}
 use Rattle.std.proofs.lemmas.List.Folds.{flat_map-map}

@@ -1,21 +1,6 @@
 -- The place of the first element that passes a test, and that element.
-use Rattle.std.proofs.Common.{
-  ◌≡◌,
-  ℕ,
-  Bool,
-  true,
-  false,
-  List,
-  length,
-  get_or,
-  None,
-  Some,
-  refl,
-  sym,
-  subst,
-  ◌∙◌,
-  cond,
-}
+use Rattle.std.proofs.Common.{◌≡◌, ℕ, Bool, true, false, List, length, get_or, None, Some, refl}
+use Rattle.std.proofs.Common.{sym, subst, ◌∙◌, cond}
 use Rattle.std.specs.Prelude.{find, nat_lt, position}
 use Rattle.std.specs.List.{position_or_len}
 use Rattle.std.proofs.lemmas.Bool.{ltb-true, ltb-false}

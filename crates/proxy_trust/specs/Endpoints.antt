@@ -1,30 +1,9 @@
 -- An address with an optional port, as proxies tell it: a node of RFC 7239, section 6, but looser.
 -- An address is any bytes of an obfnode and ":", with brackets or, as section 7.4 has IPv6
 -- addresses in X-Forwarded-For, without them.
-use Rattle.std.specs.Prelude.{
-  ℕ,
-  Bool,
-  ◌==◌,
-  ◌&&◌,
-  ◌||◌,
-  ◌+◌,
-  nat_le,
-  nat_lt,
-  List,
-  [],
-  ◌∷◌,
-  length,
-  take,
-  drop,
-  codes,
-  Option,
-  None,
-  Some,
-  option_and_then,
-  option_map,
-  position,
-  if◌then◌else◌,
-}
+use Rattle.std.specs.Prelude.{ℕ, Bool, ◌==◌, ◌&&◌, ◌||◌, ◌+◌, nat_le, nat_lt, List, [], ◌∷◌, length}
+use Rattle.std.specs.Prelude.{take, drop, codes, Option, None, Some, option_and_then, option_map}
+use Rattle.std.specs.Prelude.{position, if◌then◌else◌}
 use Rattle.std.specs.List.{list_all, list_any}
 use Rattle.std.specs.Str.Parse.{digits_value}
 use Rattle.byte_tables.specs.Classes.{is_between, is_digit, is_letter}

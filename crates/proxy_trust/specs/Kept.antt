@@ -1,21 +1,6 @@
 -- The fields of a request behind a proxy.
-use Rattle.std.specs.Prelude.{
-  ℕ,
-  Bool,
-  ◌&&◌,
-  List,
-  [],
-  ◌∷◌,
-  ◌++◌,
-  codes,
-  find,
-  Option,
-  None,
-  Some,
-  option_map,
-  option_to_list,
-  if◌then◌else◌,
-}
+use Rattle.std.specs.Prelude.{ℕ, Bool, ◌&&◌, List, [], ◌∷◌, ◌++◌, codes, find, Option, None, Some}
+use Rattle.std.specs.Prelude.{option_map, option_to_list, if◌then◌else◌}
 use Rattle.std.specs.List.{position_or_len, remove}
 use Rattle.head_grammar.specs.FieldLines.{has_name}
 use Rattle.head_grammar.specs.declared.types.Field.{Field}

@@ -1,24 +1,8 @@
 -- Values that are lists, to which each proxy adds a part behind the others (RFC 7239, section 7.1).
 -- They are read more strictly than RFC 9110 asks for: its section 5.6.1 has empty parts ignored,
 -- and here a list with one is malformed.
-use Rattle.std.specs.Prelude.{
-  ℕ,
-  Bool,
-  ◌==◌,
-  ◌-◌,
-  List,
-  [],
-  ◌∷◌,
-  length,
-  drop,
-  map,
-  codes,
-  Option,
-  None,
-  Some,
-  option_and_then,
-  if◌then◌else◌,
-}
+use Rattle.std.specs.Prelude.{ℕ, Bool, ◌==◌, ◌-◌, List, [], ◌∷◌, length, drop, map, codes, Option}
+use Rattle.std.specs.Prelude.{None, Some, option_and_then, if◌then◌else◌}
 use Rattle.std.specs.List.{list_any, slice_split, join_by}
 use Rattle.head_grammar.specs.Classes.{trimmed}
 use Rattle.proxy_trust.specs.declared.lists.LastParts.{LastParts}

@@ -1,19 +1,6 @@
 -- Whose headers are believed, and which of them.
-use Rattle.std.specs.Prelude.{
-  ◌≡◌,
-  ◌≤◌,
-  ℕ,
-  Bool,
-  false,
-  List,
-  Option,
-  None,
-  Some,
-  codes,
-  ◌&&◌,
-  ◌||◌,
-  if◌then◌else◌,
-}
+use Rattle.std.specs.Prelude.{◌≡◌, ◌≤◌, ℕ, Bool, false, List, Option, None, Some, codes, ◌&&◌, ◌||◌}
+use Rattle.std.specs.Prelude.{if◌then◌else◌}
 use Rattle.std.specs.Str.{bytes_eq}
 use Rattle.head_grammar.specs.FieldLines.{field_value}
 use Rattle.head_grammar.specs.declared.types.Field.{Field}

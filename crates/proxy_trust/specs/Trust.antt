@@ -1,20 +1,6 @@
 -- What is believed of the headers of proxies.
-use Rattle.std.specs.Prelude.{
-  ℕ,
-  Bool,
-  List,
-  ◌++◌,
-  codes,
-  Option,
-  None,
-  Some,
-  option_map,
-  option_and_then,
-  Result,
-  Ok,
-  Err,
-  if◌then◌else◌,
-}
+use Rattle.std.specs.Prelude.{ℕ, Bool, List, ◌++◌, codes, Option, None, Some, option_map}
+use Rattle.std.specs.Prelude.{option_and_then, Result, Ok, Err, if◌then◌else◌}
 use Rattle.std.specs.Str.{str_eq_ignore_ascii_case}
 use Rattle.head_grammar.specs.declared.types.Field.{Field}
 use Rattle.outside.specs.declared.types.Kind.{Kind}

@@ -4,8 +4,8 @@
 
 mod endpoint;
 mod headers;
-mod kept_field;
 mod keeping;
+mod kept_field;
 mod lists;
 mod reading;
 #[cfg(test)]

@@ -1,19 +1,6 @@
 -- Who comes to a rehearsal, and how their links give and take.
-use Rattle.std.specs.Prelude.{
-  ℕ,
-  ◌+◌,
-  ◌*◌,
-  ◌%◌,
-  false,
-  List,
-  [],
-  ◌∷◌,
-  length,
-  map,
-  codes,
-  replicate,
-  None,
-}
+use Rattle.std.specs.Prelude.{ℕ, ◌+◌, ◌*◌, ◌%◌, false, List, [], ◌∷◌, length, map, codes, replicate}
+use Rattle.std.specs.Prelude.{None}
 use Rattle.std.specs.List.{range_with_len}
 use Rattle.outside.specs.declared.plans.Comer.{Comer}
 use Rattle.outside.specs.declared.plans.LinkPlan.{LinkPlan}

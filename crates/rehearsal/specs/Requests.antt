@@ -1,19 +1,7 @@
 -- What each connection of a rehearsal sends: one request behind the other (RFC 9112, section
 -- 9.3.2).
-use Rattle.std.specs.Prelude.{
-  ℕ,
-  ◌+◌,
-  ◌*◌,
-  ◌%◌,
-  ◌==◌,
-  List,
-  [],
-  ◌++◌,
-  map,
-  codes,
-  decimal,
-  if◌then◌else◌,
-}
+use Rattle.std.specs.Prelude.{ℕ, ◌+◌, ◌*◌, ◌%◌, ◌==◌, List, [], ◌++◌, map, codes, decimal}
+use Rattle.std.specs.Prelude.{if◌then◌else◌}
 use Rattle.std.specs.List.{concat, range_with_len}
 
 -- how many requests a connection sends, by its number from 0

@@ -64,10 +64,12 @@ HeadParts = (List ℕ × (List ℕ × (List ℕ × List ℕ)))
 abbrev head_coded : Coded Head
 head_coded = code_by HeadParts
     (coded× (coded× bytes_coded (coded× bytes_coded (coded× bytes_coded bytes_coded)))
-        (coded× (coded× version_coded (coded× (coded_list field_coded) framing_coded))
-            (coded× coded_bool (coded× coded_bool coded_ℕ))))
-    (λ h. ((h.method, (h.target, (h.path, h.query))),
-        ((h.version, (h.fields, h.framing)), (h.expects, (h.closes, h.size)))))
+    (coded× (coded× version_coded (coded× (coded_list field_coded) framing_coded))
+    (coded× coded_bool (coded× coded_bool coded_ℕ))))
+    (λ h. (
+      (h.method, (h.target, (h.path, h.query))),
+      ((h.version, (h.fields, h.framing)), (h.expects, (h.closes, h.size))),
+    ))
     (λ p. record {
       method = p.0.0;
       target = p.0.1.0;

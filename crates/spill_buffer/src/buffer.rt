@@ -1,24 +1,6 @@
 //! A list of bytes, in memory while it is short, and in a spill once it isn't.
-ghost use Rattle.std.specs.Prelude.{
-  ◌≡◌,
-  ◌≢◌,
-  ◌≤◌,
-  ◌<◌,
-  ◌+◌,
-  ◌^◌,
-  ◌↔◌,
-  IsTrue,
-  [],
-  ◌++◌,
-  length,
-  take,
-  drop,
-  min,
-  Err,
-  IfOk,
-  OnOk,
-  OnErr,
-};
+ghost use Rattle.std.specs.Prelude.{◌≡◌, ◌≢◌, ◌≤◌, ◌<◌, ◌+◌, ◌^◌, ◌↔◌, IsTrue, [], ◌++◌, length};
+ghost use Rattle.std.specs.Prelude.{take, drop, min, Err, IfOk, OnOk, OnErr};
 ghost use Rattle.spill_buffer.specs.Buffer.{IsToldAs, SpillCause};
 ghost use Rattle.spill_buffer.specs.declared.fault.BufferFault.TheVariants.{NoMemory};
 

@@ -1,28 +1,7 @@
 -- The parts that a task writes, one after the other.
-use Rattle.std.proofs.Common.{
-  ◌≡◌,
-  arith,
-  length,
-  ℕ,
-  Bool,
-  true,
-  false,
-  IsTrue,
-  List,
-  [],
-  ◌∷◌,
-  ◌++◌,
-  Option,
-  Some,
-  None,
-  refl,
-  ap,
-  sym,
-  subst,
-  ◌∙◌,
-  append_assoc,
-  append-nil,
-}
+use Rattle.std.proofs.Common.{◌≡◌, arith, length, ℕ, Bool, true, false, IsTrue, List, [], ◌∷◌, ◌++◌}
+use Rattle.std.proofs.Common.{Option, Some, None, refl, ap, sym, subst, ◌∙◌, append_assoc}
+use Rattle.std.proofs.Common.{append-nil}
 use Rattle.std.specs.Prelude.{is_some, not, unwrap_or}
 use Rattle.task_core.specs.Answer.{Answer}
 use Rattle.task_core.specs.Chains.{Answers, Takes, TakesAll, TakesScript, Unless, ended_by, joined}

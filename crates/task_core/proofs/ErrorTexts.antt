@@ -3,14 +3,8 @@ use Rattle.std.proofs.Common.{◌≡◌, ◌∙◌, ℕ, Bool, List, [], ◌++�
 use Rattle.std.specs.Prelude.{decimal, if◌then◌else◌}
 use Rattle.std.specs.List.{flat_map}
 use Rattle.head_grammar.specs.declared.types.Version.{Version}
-use Rattle.task_core.specs.Errors.{
-  cause_code,
-  cause_text,
-  error_body,
-  error_fields,
-  error_text,
-  reason_of,
-}
+use Rattle.task_core.specs.Errors.{cause_code, cause_text, error_body, error_fields, error_text}
+use Rattle.task_core.specs.Errors.{reason_of}
 use Rattle.task_core.specs.ResponseHead.{crlf, field_line, status_line}
 use Rattle.task_core.specs.declared.errors.Cause.{Cause}
 

@@ -1,38 +1,12 @@
 -- An answer, seen from behind some of its steps.
-use Rattle.std.proofs.Common.{
-  ◌≡◌,
-  ℕ,
-  suc,
-  Bool,
-  true,
-  false,
-  List,
-  [],
-  ◌∷◌,
-  ◌++◌,
-  length,
-  take,
-  cond,
-  refl,
-  ap,
-  sym,
-  ◌∙◌,
-  append_assoc,
-  append-nil,
-}
+use Rattle.std.proofs.Common.{◌≡◌, ℕ, suc, Bool, true, false, List, [], ◌∷◌, ◌++◌, length, take}
+use Rattle.std.proofs.Common.{cond, refl, ap, sym, ◌∙◌, append_assoc, append-nil}
 use Rattle.std.specs.Prelude.{nat_lt, ◌&&◌, ◌||◌, not}
 use Rattle.std.proofs.lemmas.List.Folds.{list_any-append}
 use Rattle.task_core.specs.Answer.{Answer, answer, answer_to}
 use Rattle.task_core.specs.Remaining.{before_break, breaks, is_break}
-use Rattle.task_core.specs.Scripts.{
-  failure_behind,
-  has_bytes,
-  has_head,
-  has_start,
-  is_failure,
-  is_filled,
-  is_start,
-}
+use Rattle.task_core.specs.Scripts.{failure_behind, has_bytes, has_head, has_start, is_failure}
+use Rattle.task_core.specs.Scripts.{is_filled, is_start}
 use Rattle.task_core.specs.Starts.{is_valid}
 use Rattle.task_core.specs.declared.request.Request.{Request}
 use Rattle.wsgi.specs.declared.step.Step.{Step}

@@ -1,38 +1,9 @@
 -- What a step wrote, and what is left behind it.
-use Rattle.std.proofs.Common.{
-  ◌≡◌,
-  ℕ,
-  Bool,
-  true,
-  false,
-  List,
-  [],
-  ◌∷◌,
-  ◌++◌,
-  Option,
-  Some,
-  None,
-  Result,
-  Ok,
-  Err,
-  cond,
-  refl,
-  ap,
-  sym,
-  subst,
-  ◌∙◌,
-  append-nil,
-}
+use Rattle.std.proofs.Common.{◌≡◌, ℕ, Bool, true, false, List, [], ◌∷◌, ◌++◌, Option, Some, None}
+use Rattle.std.proofs.Common.{Result, Ok, Err, cond, refl, ap, sym, subst, ◌∙◌, append-nil}
 use Rattle.std.specs.Prelude.{IfOk, ◌||◌, is_some}
-use Rattle.task_core.specs.Answer.{
-  Answer,
-  answer,
-  body_bytes,
-  failure_text,
-  layout_closes,
-  layout_of,
-  response_head,
-}
+use Rattle.task_core.specs.Answer.{Answer, answer, body_bytes, failure_text, layout_closes}
+use Rattle.task_core.specs.Answer.{layout_of, response_head}
 use Rattle.task_core.specs.Remaining.{before_break, breaks, rest_by, rest_of_body, start_steps}
 use Rattle.task_core.specs.Scripts.{has_bytes, pieces}
 use Rattle.task_core.specs.Sending.{ending, left_behind, passed}

@@ -2,22 +2,10 @@
 use Rattle.std.proofs.Common.{◌≡◌, ℕ, List, [], ◌∷◌, ◌++◌, map, refl, ap, ◌∙◌, append_assoc}
 use Rattle.std.specs.Prelude.{codes, filter, not}
 use Rattle.head_grammar.specs.declared.types.Field.{Field}
-use Rattle.task_core.specs.Answer.{
-  connection_fields,
-  framing_fields,
-  given_fields,
-  origin_field,
-  own_date_fields,
-  own_fields,
-  response_head,
-}
-use Rattle.task_core.specs.ResponseHead.{
-  head_text,
-  recased_field,
-  sorted_by_name,
-  trimmed_field,
-  written,
-}
+use Rattle.task_core.specs.Answer.{connection_fields, framing_fields, given_fields, origin_field}
+use Rattle.task_core.specs.Answer.{own_date_fields, own_fields, response_head}
+use Rattle.task_core.specs.ResponseHead.{head_text, recased_field, sorted_by_name, trimmed_field}
+use Rattle.task_core.specs.ResponseHead.{written}
 use Rattle.task_core.specs.Starts.{is_named}
 use Rattle.task_core.specs.declared.layout.Layout.{Layout}
 use Rattle.task_core.specs.declared.request.Request.{Request}

@@ -1,28 +1,6 @@
 -- A number in hexadecimal digits is that of its sixteenth, and one more digit.
-use Rattle.std.proofs.Common.{
-  ◌≡◌,
-  ◌<◌,
-  ◌≤◌,
-  ◌/◌,
-  ◌%◌,
-  ◌^◌,
-  ℕ,
-  zero,
-  suc,
-  true,
-  List,
-  [],
-  ◌∷◌,
-  ◌++◌,
-  cond,
-  refl,
-  ap,
-  sym,
-  ◌∙◌,
-  append_assoc,
-  ⊎_elim,
-  arith,
-}
+use Rattle.std.proofs.Common.{◌≡◌, ◌<◌, ◌≤◌, ◌/◌, ◌%◌, ◌^◌, ℕ, zero, suc, true, List, [], ◌∷◌, ◌++◌}
+use Rattle.std.proofs.Common.{cond, refl, ap, sym, ◌∙◌, append_assoc, ⊎_elim, arith}
 use Rattle.std.proofs.lemmas.Bool.{eq-eqb, ne_eqb, cases_lt}
 use Rattle.std.specs.Fmt.{digits, digits_onto, digit_glyph}
 

@@ -1,50 +1,14 @@
 -- What a step before the head makes of the answer.
-use Rattle.std.proofs.Common.{
-  ◌≡◌,
-  ℕ,
-  Bool,
-  true,
-  false,
-  List,
-  [],
-  ◌∷◌,
-  ◌++◌,
-  Option,
-  Some,
-  None,
-  take,
-  cond,
-  refl,
-  ap,
-  sym,
-  ◌∙◌,
-  append_assoc,
-}
+use Rattle.std.proofs.Common.{◌≡◌, ℕ, Bool, true, false, List, [], ◌∷◌, ◌++◌, Option, Some, None}
+use Rattle.std.proofs.Common.{take, cond, refl, ap, sym, ◌∙◌, append_assoc}
 use Rattle.std.specs.Prelude.{is_some, ◌&&◌, ◌||◌, not, if◌then◌else◌}
 use Rattle.std.specs.List.{filter_map, last_or}
 use Rattle.head_grammar.specs.declared.types.Field.{Field}
-use Rattle.task_core.specs.Answer.{
-  Answer,
-  answer,
-  answer_from,
-  answer_to,
-  body_bytes,
-  failure_text,
-  layout_closes,
-  layout_of,
-  response_head,
-}
+use Rattle.task_core.specs.Answer.{Answer, answer, answer_from, answer_to, body_bytes, failure_text}
+use Rattle.task_core.specs.Answer.{layout_closes, layout_of, response_head}
 use Rattle.task_core.specs.Remaining.{before_break, breaks, rest_by, rest_of_body, start_steps}
-use Rattle.task_core.specs.Scripts.{
-  before_head,
-  failure_behind,
-  has_bytes,
-  has_head,
-  head_writer,
-  is_failure,
-  pieces,
-  start_of,
-}
+use Rattle.task_core.specs.Scripts.{before_head, failure_behind, has_bytes, has_head, head_writer}
+use Rattle.task_core.specs.Scripts.{is_failure, pieces, start_of}
 use Rattle.task_core.specs.Sending.{ending, left_behind, passed}
 use Rattle.task_core.specs.Starts.{is_valid}
 use Rattle.task_core.specs.Steps.{byte_string, onto}
@@ -54,16 +18,8 @@ use Rattle.task_core.specs.declared.starts.Given.{Given}
 use Rattle.task_core.specs.declared.state.State.TheVariants.{Sending}
 use Rattle.wsgi.specs.declared.step.Step.{Step}
 use Rattle.wsgi.specs.declared.step.Step.TheVariants.{Start, Piece, Whole, Fail}
-use Rattle.task_core.proofs.Failing.{
-  answer_behind,
-  answer_is,
-  at_end,
-  broken_behind,
-  failed_step,
-  other_steps,
-  sound_step,
-  taken_behind,
-}
+use Rattle.task_core.proofs.Failing.{answer_behind, answer_is, at_end, broken_behind, failed_step}
+use Rattle.task_core.proofs.Failing.{other_steps, sound_step, taken_behind}
 use Rattle.task_core.proofs.Pieces.{ending_is, piece_closes, piece_sent}
 use Rattle.task_core.proofs.Testing.{and_false, and_true, or_false}
 

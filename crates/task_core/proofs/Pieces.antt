@@ -1,28 +1,6 @@
 -- The first piece of a body, and those behind it.
-use Rattle.std.proofs.Common.{
-  ◌≡◌,
-  ◌+◌,
-  ◌-◌,
-  ℕ,
-  zero,
-  suc,
-  Bool,
-  true,
-  false,
-  List,
-  [],
-  ◌∷◌,
-  ◌++◌,
-  length,
-  take,
-  cond,
-  refl,
-  ap,
-  sym,
-  ◌∙◌,
-  append_assoc,
-  arith,
-}
+use Rattle.std.proofs.Common.{◌≡◌, ◌+◌, ◌-◌, ℕ, zero, suc, Bool, true, false, List, [], ◌∷◌, ◌++◌}
+use Rattle.std.proofs.Common.{length, take, cond, refl, ap, sym, ◌∙◌, append_assoc, arith}
 use Rattle.std.proofs.lemmas.Bool.Decides.{nat_tests}
 use Rattle.std.proofs.lemmas.List.{length-append}
 use Rattle.std.proofs.Math.Seq.{take-nil}
@@ -32,14 +10,8 @@ use Rattle.task_core.specs.Answer.{body_bytes, chunk, last_chunk, layout_closes}
 use Rattle.task_core.specs.Scripts.{has_bytes}
 use Rattle.task_core.specs.Sending.{ending, left_behind, passed}
 use Rattle.task_core.specs.declared.layout.Layout.{Layout}
-use Rattle.task_core.specs.declared.layout.Layout.TheVariants.{
-  NoContent,
-  NotModified,
-  HeadOnly,
-  Known,
-  Chunked,
-  UntilClose,
-}
+use Rattle.task_core.specs.declared.layout.Layout.TheVariants.{NoContent, NotModified, HeadOnly}
+use Rattle.task_core.specs.declared.layout.Layout.TheVariants.{Known, Chunked, UntilClose}
 
 none_less : (n : ℕ) → n ≡ n - 0
 none_less n = omega arith

@@ -1,23 +1,6 @@
 -- Whether a row of a table fits, and whether a name stands in a list.
-use Rattle.std.proofs.Common.{
-  ◌≡◌,
-  ◌+◌,
-  ℕ,
-  suc,
-  Bool,
-  true,
-  false,
-  List,
-  [],
-  ◌∷◌,
-  length,
-  map,
-  cond,
-  refl,
-  ap,
-  ◌∙◌,
-  arith,
-}
+use Rattle.std.proofs.Common.{◌≡◌, ◌+◌, ℕ, suc, Bool, true, false, List, [], ◌∷◌, length, map, cond}
+use Rattle.std.proofs.Common.{refl, ap, ◌∙◌, arith}
 use Rattle.std.proofs.lemmas.Bool.Decides.{nat_tests}
 use Rattle.std.specs.Prelude.{None, Some, is_some, not, nat_lt, ◌||◌, position}
 use Rattle.std.specs.List.{list_any, position_or_len}

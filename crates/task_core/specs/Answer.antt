@@ -1,28 +1,7 @@
 -- The answer to a request, from the whole script of its application (PEP 3333; RFC 9110, sections
 -- 6.4, 8.6 and 15; RFC 9112, sections 6, 7.1 and 9).
-use Rattle.std.specs.Prelude.{
-  ℕ,
-  Bool,
-  true,
-  false,
-  not,
-  ◌||◌,
-  nat_lt,
-  List,
-  [],
-  ◌∷◌,
-  ◌++◌,
-  length,
-  take,
-  map,
-  filter,
-  codes,
-  Option,
-  Some,
-  None,
-  is_some,
-  if◌then◌else◌,
-}
+use Rattle.std.specs.Prelude.{ℕ, Bool, true, false, not, ◌||◌, nat_lt, List, [], ◌∷◌, ◌++◌, length}
+use Rattle.std.specs.Prelude.{take, map, filter, codes, Option, Some, None, is_some, if◌then◌else◌}
 use Rattle.std.specs.Fmt.{digits}
 use Rattle.std.specs.List.{concat, flat_map, list_any}
 use Rattle.std.specs.Option.{option_to_list}
@@ -31,27 +10,15 @@ use Rattle.head_grammar.specs.declared.types.Field.{Field}
 use Rattle.head_grammar.specs.Heads.{Head}
 use Rattle.head_grammar.specs.declared.types.Version.{Version}
 use Rattle.head_grammar.specs.declared.types.Version.TheVariants.{Old, New}
-use Rattle.task_core.specs.Errors.{
-  close_field,
-  date_fields,
-  error_text,
-  is_head,
-  length_field,
-  server_field,
-}
+use Rattle.task_core.specs.Errors.{close_field, date_fields, error_text, is_head, length_field}
+use Rattle.task_core.specs.Errors.{server_field}
 use Rattle.task_core.specs.ResponseHead.{crlf, head_text, sorted_by_name, written}
 use Rattle.task_core.specs.Scripts.{has_failed, head_writer, pieces, sound_steps, start_in_force}
 use Rattle.task_core.specs.Starts.{declared_length, is_named}
 use Rattle.task_core.specs.declared.errors.Cause.TheVariants.{Application}
 use Rattle.task_core.specs.declared.layout.Layout.{Layout}
-use Rattle.task_core.specs.declared.layout.Layout.TheVariants.{
-  NoContent,
-  NotModified,
-  HeadOnly,
-  Known,
-  Chunked,
-  UntilClose,
-}
+use Rattle.task_core.specs.declared.layout.Layout.TheVariants.{NoContent, NotModified, HeadOnly}
+use Rattle.task_core.specs.declared.layout.Layout.TheVariants.{Known, Chunked, UntilClose}
 use Rattle.task_core.specs.declared.request.Request.{Request}
 use Rattle.wsgi.specs.declared.step.Step.{Step}
 use Rattle.wsgi.specs.declared.step.Step.TheVariants.{Start, Piece, Whole, Fail}

@@ -1,18 +1,6 @@
 -- Answers of the server itself, each as one text.
-use Rattle.std.specs.Prelude.{
-  ℕ,
-  Bool,
-  List,
-  [],
-  ◌∷◌,
-  ◌++◌,
-  length,
-  codes,
-  decimal,
-  ◌==◌,
-  if◌then◌else◌,
-  nat_lt,
-}
+use Rattle.std.specs.Prelude.{ℕ, Bool, List, [], ◌∷◌, ◌++◌, length, codes, decimal, ◌==◌}
+use Rattle.std.specs.Prelude.{if◌then◌else◌, nat_lt}
 use Rattle.std.specs.Str.{bytes_eq}
 use Rattle.byte_tables.specs.Refusals.{code_of, text_of}
 use Rattle.head_grammar.specs.declared.types.Field.{Field}

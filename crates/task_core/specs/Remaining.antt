@@ -1,18 +1,6 @@
 -- What a task still gives for the steps that are left.
-use Rattle.std.specs.Prelude.{
-  Bool,
-  true,
-  false,
-  ◌||◌,
-  List,
-  [],
-  ◌∷◌,
-  ◌++◌,
-  Option,
-  Some,
-  None,
-  if◌then◌else◌,
-}
+use Rattle.std.specs.Prelude.{Bool, true, false, ◌||◌, List, [], ◌∷◌, ◌++◌, Option, Some, None}
+use Rattle.std.specs.Prelude.{if◌then◌else◌}
 use Rattle.std.specs.List.{list_any}
 use Rattle.task_core.specs.Answer.{Answer, answer, body_bytes, layout_closes}
 use Rattle.task_core.specs.Scripts.{pieces}

@@ -1,28 +1,7 @@
 -- What the steps of a response say: where they fail, what begins the head, what the body is of (PEP
 -- 3333, 'The start_response() Callable' and 'Buffering and Streaming').
-use Rattle.std.specs.Prelude.{
-  ℕ,
-  suc,
-  Bool,
-  true,
-  false,
-  not,
-  ◌&&◌,
-  ◌||◌,
-  nat_lt,
-  List,
-  [],
-  ◌∷◌,
-  ◌++◌,
-  length,
-  take,
-  filter,
-  find,
-  Option,
-  Some,
-  None,
-  if◌then◌else◌,
-}
+use Rattle.std.specs.Prelude.{ℕ, suc, Bool, true, false, not, ◌&&◌, ◌||◌, nat_lt, List, [], ◌∷◌}
+use Rattle.std.specs.Prelude.{◌++◌, length, take, filter, find, Option, Some, None, if◌then◌else◌}
 use Rattle.std.specs.List.{filter_map, last_or, list_any}
 use Rattle.head_grammar.specs.declared.types.Field.{Field}
 use Rattle.task_core.specs.Starts.{is_valid}

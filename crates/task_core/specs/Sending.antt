@@ -3,14 +3,8 @@ use Rattle.std.specs.Prelude.{ℕ, ◌-◌, List, [], length, take, codes, if◌
 use Rattle.task_core.specs.Answer.{chunk}
 use Rattle.task_core.specs.Scripts.{has_bytes}
 use Rattle.task_core.specs.declared.layout.Layout.{Layout}
-use Rattle.task_core.specs.declared.layout.Layout.TheVariants.{
-  NoContent,
-  NotModified,
-  HeadOnly,
-  Known,
-  Chunked,
-  UntilClose,
-}
+use Rattle.task_core.specs.declared.layout.Layout.TheVariants.{NoContent, NotModified, HeadOnly}
+use Rattle.task_core.specs.declared.layout.Layout.TheVariants.{Known, Chunked, UntilClose}
 
 abbrev pub passed : Layout → List ℕ → List ℕ
 passed NoContent bytes = []

@@ -1,23 +1,6 @@
 -- What a call of start_response may give (PEP 3333, 'The start_response() Callable').
-use Rattle.std.specs.Prelude.{
-  ℕ,
-  Bool,
-  true,
-  false,
-  not,
-  ◌&&◌,
-  ◌==◌,
-  ◌^◌,
-  nat_lt,
-  List,
-  [],
-  ◌∷◌,
-  filter,
-  find,
-  codes,
-  Option,
-  option_map,
-}
+use Rattle.std.specs.Prelude.{ℕ, Bool, true, false, not, ◌&&◌, ◌==◌, ◌^◌, nat_lt, List, [], ◌∷◌}
+use Rattle.std.specs.Prelude.{filter, find, codes, Option, option_map}
 use Rattle.std.specs.List.{list_all, list_any}
 use Rattle.std.specs.Str.{str_eq_ignore_ascii_case}
 use Rattle.std.specs.Str.Parse.{digits_value}

@@ -1,20 +1,6 @@
 -- What one step of a task gives.
-use Rattle.std.specs.Prelude.{
-  ◌≡◌,
-  Bool,
-  true,
-  false,
-  not,
-  List,
-  [],
-  ◌∷◌,
-  ◌++◌,
-  ℕ,
-  Option,
-  Some,
-  None,
-  is_some,
-}
+use Rattle.std.specs.Prelude.{◌≡◌, Bool, true, false, not, List, [], ◌∷◌, ◌++◌, ℕ, Option, Some}
+use Rattle.std.specs.Prelude.{None, is_some}
 use Rattle.task_core.specs.Answer.{Answer}
 use Rattle.task_core.specs.Remaining.{rest_by}
 use Rattle.task_core.specs.declared.request.Request.{Request}

@@ -74,9 +74,17 @@ fn request_text(alloc: Global, request: &str) -> Result<Vec<u8>, AllocError> {
     let (method, _) = request.split_once(' ').unwrap_or((request, ""));
     let mut text = Vec::from_slice(alloc, method.as_bytes())?;
     text.extend_from_slice(b" / HTTP/")?;
-    text.extend_from_slice(if request.contains(" 1.0") { b"1.0" } else { b"1.1" })?;
+    text.extend_from_slice(if request.contains(" 1.0") {
+        b"1.0"
+    } else {
+        b"1.1"
+    })?;
     text.extend_from_slice(b"\r\nConnection: ")?;
-    text.extend_from_slice(if request.ends_with(" close") { b"close" } else { b"keep-alive" })?;
+    text.extend_from_slice(if request.ends_with(" close") {
+        b"close"
+    } else {
+        b"keep-alive"
+    })?;
     text.extend_from_slice(b"\r\n\r\n")?;
     Ok(text)
 }

@@ -2,15 +2,11 @@
 use denote.RattleType.{RattleType}
 use denote.Param.Send.{IsSend, sendable}
 use Rattle.std.proofs.Crossing.{crosses}
-use Rattle.atomic_table.proofs.shared.Shared.TheSendSync.{
-  the_send as shared_send,
-  the_sync as shared_sync,
-}
+use Rattle.atomic_table.proofs.shared.Shared.TheSendSync.{the_send as shared_send}
+use Rattle.atomic_table.proofs.shared.Shared.TheSendSync.{the_sync as shared_sync}
 use Rattle.atomic_table.proofs.shared.Seat.TheSendSync.{the_send as seat_send}
-use Rattle.atomic_table.proofs.send_lease.SendLease.TheSendSync.{
-  the_send as lease_send,
-  the_sync as lease_sync,
-}
+use Rattle.atomic_table.proofs.send_lease.SendLease.TheSendSync.{the_send as lease_send}
+use Rattle.atomic_table.proofs.send_lease.SendLease.TheSendSync.{the_sync as lease_sync}
 use Rattle.turn_gate.specs.declared.pact.Pact.{Ghosts}
 use Rattle.turn_gate.specs.contracts.board.Shelf as Shelf
 use Rattle.turn_gate.specs.contracts.left_end.Left as Left

@@ -1,48 +1,14 @@
 -- The gate seen from one of its ends: `mine` and `others` pick, of the left and the right entries,
 -- those of this end and those of the other. So each step is proved once for both ends.
-use Rattle.std.proofs.Common.{
-  ◌≡◌,
-  ℕ,
-  eqb,
-  true,
-  false,
-  List,
-  [],
-  ◌∷◌,
-  ◌++◌,
-  append_assoc,
-  get_or,
-  set,
-  sym,
-  refl,
-  ap,
-  ◌∙◌,
-  subst,
-  Option,
-  Some,
-  None,
-}
+use Rattle.std.proofs.Common.{◌≡◌, ℕ, eqb, true, false, List, [], ◌∷◌, ◌++◌, append_assoc, get_or}
+use Rattle.std.proofs.Common.{set, sym, refl, ap, ◌∙◌, subst, Option, Some, None}
 use mathlib.Core.Option.{some, none}
 use mathlib.Core.Option as maybe
 use mathlib.Core.List.{IsPrefix, append-nil}
 use lib.ListN.{get_elem?}
 use prog.Atomic.{either}
-use Rattle.atomic_table.specs.Table.{
-  State,
-  Me,
-  Step,
-  step,
-  Act,
-  keeps,
-  takes,
-  gives,
-  Valid,
-  rest,
-  carried_after,
-  homes_after,
-  stepped,
-  Allows,
-}
+use Rattle.atomic_table.specs.Table.{State, Me, Step, step, Act, keeps, takes, gives, Valid, rest}
+use Rattle.atomic_table.specs.Table.{carried_after, homes_after, stepped, Allows}
 use Rattle.atomic_table.specs.declared.shared.Seat.{Seat}
 use Rattle.turn_gate.specs.declared.board.Shelf.{Shelf}
 use Rattle.turn_gate.specs.declared.board.Side.{Side}

@@ -1,63 +1,19 @@
 -- The steps before a gate is open keep its rule.
-use Rattle.std.proofs.Common.{
-  ◌≡◌,
-  ◌⊎◌,
-  ℕ,
-  List,
-  [],
-  ◌∷◌,
-  ◌++◌,
-  get_or,
-  set,
-  sym,
-  refl,
-  ap,
-  ◌∙◌,
-  subst,
-  inl,
-  inr,
-  Option,
-  Some,
-  None,
-}
+use Rattle.std.proofs.Common.{◌≡◌, ◌⊎◌, ℕ, List, [], ◌∷◌, ◌++◌, get_or, set, sym, refl, ap, ◌∙◌}
+use Rattle.std.proofs.Common.{subst, inl, inr, Option, Some, None}
 use mathlib.Core.Option.{some, none}
 use mathlib.Core.Option as maybe
 use lib.ListN.{get_elem?}
 use lib.Seq.{set-get_or}
-use Rattle.atomic_table.specs.Table.{
-  State,
-  Me,
-  Step,
-  step,
-  Act,
-  takes,
-  gives,
-  Valid,
-  rest,
-  carried_after,
-  stepped,
-  Allows,
-  Splits,
-}
+use Rattle.atomic_table.specs.Table.{State, Me, Step, step, Act, takes, gives, Valid, rest}
+use Rattle.atomic_table.specs.Table.{carried_after, stepped, Allows, Splits}
 use Rattle.turn_gate.specs.declared.board.Entries.{Entries}
 use Rattle.turn_gate.specs.declared.board.Shelf.{Shelf}
 use Rattle.turn_gate.specs.declared.board.Side.{Side}
 use Rattle.turn_gate.specs.declared.board.Side.TheVariants.{Vacant, Filling, Whole, Left, Right}
 use Rattle.turn_gate.specs.declared.board.View.{View}
-use Rattle.turn_gate.specs.Gate.{
-  alone,
-  Holds,
-  free,
-  Opening,
-  vacant,
-  filling,
-  whole,
-  Kept,
-  began,
-  filled,
-  left_part,
-  right_part,
-}
+use Rattle.turn_gate.specs.Gate.{alone, Holds, free, Opening, vacant, filling, whole, Kept, began}
+use Rattle.turn_gate.specs.Gate.{filled, left_part, right_part}
 use Rattle.turn_gate.proofs.Steps.{at_two, lone}
 
 module _ {S L R F : Type 0} (agree : S → List L → List R → Type 0) (fixed : S → F) where

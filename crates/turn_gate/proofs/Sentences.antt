@@ -1,39 +1,12 @@
 -- The sentences of the rule, of both ends.
-use Rattle.std.proofs.Common.{
-  refl,
-  ◌≡◌,
-  ℕ,
-  suc-ne-zero,
-  Bool,
-  true,
-  false,
-  List,
-  [],
-  ◌∷◌,
-  get_or,
-  sym,
-  ap,
-  ◌∙◌,
-  subst,
-  inl,
-  inr,
-  Option,
-}
+use Rattle.std.proofs.Common.{refl, ◌≡◌, ℕ, suc-ne-zero, Bool, true, false, List, [], ◌∷◌, get_or}
+use Rattle.std.proofs.Common.{sym, ap, ◌∙◌, subst, inl, inr, Option}
 use Rattle.atomic_table.specs.Table.{State}
 use Rattle.turn_gate.specs.declared.board.Entries.{Entries}
 use Rattle.turn_gate.specs.declared.board.Shelf.{Shelf}
 use Rattle.turn_gate.specs.declared.board.View.{View}
-use Rattle.turn_gate.specs.Gate.{
-  Phase,
-  free,
-  left_has,
-  right_has,
-  Two,
-  vacant,
-  filling,
-  whole,
-  Kept,
-}
+use Rattle.turn_gate.specs.Gate.{Phase, free, left_has, right_has, Two, vacant, filling, whole}
+use Rattle.turn_gate.specs.Gate.{Kept}
 use Rattle.turn_gate.specs.Rule.{KeepsRule, Keeps, RefusesWhereHeld}
 
 module _ {S L R F : Type 0} (agree : S → List L → List R → Type 0) (fixed : S → F) where

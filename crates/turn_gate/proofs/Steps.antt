@@ -1,26 +1,6 @@
 -- The steps of each end keep the rule of the gate.
-use Rattle.std.proofs.Common.{
-  ◌≡◌,
-  ◌⊎◌,
-  ℕ,
-  zero,
-  suc,
-  true,
-  false,
-  List,
-  [],
-  ◌∷◌,
-  ◌++◌,
-  sym,
-  refl,
-  ap,
-  ◌∙◌,
-  subst,
-  inl,
-  inr,
-  Option,
-  Some,
-}
+use Rattle.std.proofs.Common.{◌≡◌, ◌⊎◌, ℕ, zero, suc, true, false, List, [], ◌∷◌, ◌++◌, sym, refl}
+use Rattle.std.proofs.Common.{ap, ◌∙◌, subst, inl, inr, Option, Some}
 use mathlib.Core.Option.{some, some-injective, some-ne-none}
 use lib.ListN.{get_elem?}
 use lib.Seq.{set-get_or}
@@ -33,34 +13,10 @@ use Rattle.turn_gate.specs.declared.board.Side.{Side}
 use Rattle.turn_gate.specs.declared.board.Side.TheVariants.{Vacant, Filling, Whole, Left, Right}
 use Rattle.turn_gate.specs.declared.board.View.{View}
 use Rattle.turn_gate.specs.Ends.{End, in_hand, left_end, right_end, after_turn}
-use Rattle.turn_gate.specs.Gate.{
-  alone,
-  Phase,
-  free,
-  left_has,
-  right_has,
-  Two,
-  Opening,
-  vacant,
-  filling,
-  whole,
-  Kept,
-  took,
-  ended,
-  looked,
-}
-use Rattle.turn_gate.proofs.Moments.{
-  Moment,
-  nobody,
-  i_have,
-  they_have,
-  Seen,
-  st₀,
-  swaps,
-  turn_taken,
-  turn_ended,
-  after,
-}
+use Rattle.turn_gate.specs.Gate.{alone, Phase, free, left_has, right_has, Two, Opening, vacant}
+use Rattle.turn_gate.specs.Gate.{filling, whole, Kept, took, ended, looked}
+use Rattle.turn_gate.proofs.Moments.{Moment, nobody, i_have, they_have, Seen, st₀, swaps}
+use Rattle.turn_gate.proofs.Moments.{turn_taken, turn_ended, after}
 
 module _ {A : Type 0} where
   at_one : (a v : A) (i : ℕ) → get_elem? (a ∷ []) i ≡ some v → (i ≡ 0) × (a ≡ v)

@@ -1,11 +1,8 @@
 //! The opening of a gate.
 ghost use Rattle.std.specs.Prelude.{◌≡◌, ◌∷◌, [], IfOk, IfErr};
 ghost use Rattle.turn_gate.specs.Ends.{new_end, IsNew};
-ghost use Rattle.turn_gate.specs.declared.board.Side.TheVariants.{
-  Vacant,
-  Left as AtLeft,
-  Right as AtRight,
-};
+ghost use Rattle.turn_gate.specs.declared.board.Side.TheVariants.{Vacant, Left as AtLeft};
+ghost use Rattle.turn_gate.specs.declared.board.Side.TheVariants.{Right as AtRight};
 
 use crate::board::{FREE, Gate, HELD, Known, Place, Shelf, Slot};
 use crate::left_end::Left;

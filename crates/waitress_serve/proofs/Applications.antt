@@ -1,37 +1,8 @@
 -- What serving an application leaves, by the words and the files.
-use Rattle.std.proofs.Common.{
-  ◌≡◌,
-  ◌≤◌,
-  ◌+◌,
-  ℕ,
-  Bool,
-  true,
-  false,
-  IsTrue,
-  List,
-  length,
-  refl,
-  ap,
-  sym,
-  subst,
-  ◌∙◌,
-  arith,
-}
-use Rattle.std.specs.Prelude.{
-  All,
-  ◌<◌,
-  ◌&&◌,
-  ◌||◌,
-  not,
-  Option,
-  None,
-  Some,
-  is_some,
-  Result,
-  Ok,
-  Err,
-  option_map,
-}
+use Rattle.std.proofs.Common.{◌≡◌, ◌≤◌, ◌+◌, ℕ, Bool, true, false, IsTrue, List, length, refl, ap}
+use Rattle.std.proofs.Common.{sym, subst, ◌∙◌, arith}
+use Rattle.std.specs.Prelude.{All, ◌<◌, ◌&&◌, ◌||◌, not, Option, None, Some, is_some, Result, Ok}
+use Rattle.std.specs.Prelude.{Err, option_map}
 use Rattle.adjust.specs.declared.types.Adjustments.{Adjustments}
 use Rattle.adjust.specs.declared.types.AppName.{AppName}
 use Rattle.adjust.specs.declared.types.AppName.TheVariants as app
@@ -47,16 +18,8 @@ use Rattle.outside.specs.declared.types.Listen.{Listen}
 use Rattle.poll_loop.specs.Connections.{HasBroken}
 use Rattle.poll_loop.specs.Entries.{Service}
 use Rattle.poll_loop.specs.Seat.{Eyes}
-use Rattle.waitress_serve.specs.Conclusions.{
-  Concludes,
-  IsOfPrinting,
-  IsOfServing,
-  NetLeaves,
-  Ran,
-  RanOver,
-  TableCount,
-  Works,
-}
+use Rattle.waitress_serve.specs.Conclusions.{Concludes, IsOfPrinting, IsOfServing, NetLeaves, Ran}
+use Rattle.waitress_serve.specs.Conclusions.{RanOver, TableCount, Works}
 use Rattle.waitress_serve.specs.Made.{Files, LacksTable, can_make, rows_in, table_at}
 use Rattle.waitress_serve.specs.Owed.{owed_by, owed_where, owed_with, service_for, service_with}
 use Rattle.waitress_serve.specs.Reading.{Reading, prints}

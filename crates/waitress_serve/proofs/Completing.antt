@@ -1,20 +1,6 @@
 -- How the top call answers where nothing happened.
-use Rattle.std.proofs.Common.{
-  ◌≡◌,
-  ◌⊎◌,
-  inl,
-  inr,
-  ℕ,
-  Bool,
-  true,
-  false,
-  IsTrue,
-  List,
-  refl,
-  ap,
-  subst,
-  arith,
-}
+use Rattle.std.proofs.Common.{◌≡◌, ◌⊎◌, inl, inr, ℕ, Bool, true, false, IsTrue, List, refl, ap}
+use Rattle.std.proofs.Common.{subst, arith}
 use Rattle.std.specs.Prelude.{◌<◌, not, ◌&&◌, is_some, Option, None, Result, Ok, Err}
 use Rattle.adjust.specs.declared.types.AppName.TheVariants as app
 use Rattle.adjust.specs.declared.types.Command.TheVariants as command

@@ -1,29 +1,7 @@
 -- What a command leaves of the net, once it has ended.
-use Rattle.std.proofs.Common.{
-  ◌≡◌,
-  ◌≤◌,
-  ◌+◌,
-  ◌⊎◌,
-  inl,
-  inr,
-  ℕ,
-  Bool,
-  true,
-  false,
-  IsTrue,
-  List,
-  [],
-  ◌++◌,
-  length,
-  refl,
-  ap,
-  sym,
-  subst,
-  ◌∙◌,
-  arith,
-  append-nil,
-  length-append,
-}
+use Rattle.std.proofs.Common.{◌≡◌, ◌≤◌, ◌+◌, ◌⊎◌, inl, inr, ℕ, Bool, true, false, IsTrue, List, []}
+use Rattle.std.proofs.Common.{◌++◌, length, refl, ap, sym, subst, ◌∙◌, arith, append-nil}
+use Rattle.std.proofs.Common.{length-append}
 use Rattle.std.specs.Prelude.{All, ◌<◌, ◌∷◌, Option, None, Some, Result, Ok, Err, ◌&&◌}
 use Rattle.std.proofs.lemmas.List.{length-map}
 use Rattle.std.proofs.lemmas.List.Elements.{All-head}
@@ -39,26 +17,11 @@ use Rattle.outside.specs.declared.types.End.{End}
 use Rattle.outside.specs.declared.types.End.TheVariants as over
 use Rattle.outside.specs.declared.types.Listen.{Listen}
 use Rattle.outside.specs.declared.types.Peer.{Peer}
-use Rattle.poll_loop.specs.Accounts.{
-  IsMet,
-  LastKnows,
-  NobodyShut,
-  ServeCause,
-  ServeEnds,
-  Served,
-  Stops,
-  books,
-  retired_of,
-}
+use Rattle.poll_loop.specs.Accounts.{IsMet, LastKnows, NobodyShut, ServeCause, ServeEnds, Served}
+use Rattle.poll_loop.specs.Accounts.{Stops, books, retired_of}
 use Rattle.poll_loop.specs.Connections.{HasBroken, going_on, service_by, shutting_down}
-use Rattle.poll_loop.specs.Entries.{
-  EndHolds,
-  EntryHolds,
-  Grounds,
-  Service,
-  app_faults,
-  spill_faults,
-}
+use Rattle.poll_loop.specs.Entries.{EndHolds, EntryHolds, Grounds, Service, app_faults}
+use Rattle.poll_loop.specs.Entries.{spill_faults}
 use Rattle.poll_loop.specs.Lists.{EachIs}
 use Rattle.poll_loop.specs.Seat.{Eyes}
 use Rattle.poll_loop.specs.declared.settings.Going.TheVariants as going
@@ -67,34 +30,12 @@ use Rattle.poll_loop.specs.declared.settings.ServeFault.{ServeFault}
 use Rattle.poll_loop.specs.declared.settings.ServeFault.TheVariants as fault
 use Rattle.poll_loop.specs.declared.settings.Settings.{Settings}
 use Rattle.waitress_serve.specs.Completeness.{IsAnswered, IsBrief, IsStill}
-use Rattle.waitress_serve.specs.Conclusions.{
-  AnswersAll,
-  BindCount,
-  DoneAdds,
-  DoneStops,
-  FailsUnstopped,
-  Fell,
-  IsDownBy,
-  IsOfServing,
-  NetLeaves,
-  OutCount,
-  OutLeaves,
-  PollCount,
-  Ran,
-  RanOver,
-  ServedAll,
-  conclusion_of,
-}
-use Rattle.waitress_serve.specs.Headline.{
-  Added,
-  KeepsLimit,
-  RetiresGiven,
-  SettlesRuns,
-  SettlesSpills,
-  ShutLast,
-  WentDown,
-  grounds,
-}
+use Rattle.waitress_serve.specs.Conclusions.{AnswersAll, BindCount, DoneAdds, DoneStops}
+use Rattle.waitress_serve.specs.Conclusions.{FailsUnstopped, Fell, IsDownBy, IsOfServing, NetLeaves}
+use Rattle.waitress_serve.specs.Conclusions.{OutCount, OutLeaves, PollCount, Ran, RanOver}
+use Rattle.waitress_serve.specs.Conclusions.{ServedAll, conclusion_of}
+use Rattle.waitress_serve.specs.Headline.{Added, KeepsLimit, RetiresGiven, SettlesRuns}
+use Rattle.waitress_serve.specs.Headline.{SettlesSpills, ShutLast, WentDown, grounds}
 use Rattle.waitress_serve.specs.Made.{Files, reads_files}
 use Rattle.waitress_serve.specs.Owed.{owed_by, service_for, service_with, told_by}
 use Rattle.waitress_serve.specs.Reading.{Reading}
@@ -103,18 +44,8 @@ use Rattle.waitress_serve.specs.Settings.{settings_for}
 use Rattle.waitress_serve.specs.Status.{MeetsLimit, ToldStop, timeout_by}
 use Rattle.waitress_serve.specs.declared.conclusion.Conclusion.{Conclusion}
 use Rattle.waitress_serve.specs.declared.conclusion.Conclusion.TheVariants as conclusion
-use Rattle.waitress_serve.proofs.Ends.{
-  answered_end,
-  each_append,
-  each_both,
-  each_front,
-  each_map,
-  each_none,
-  none_counted,
-  none_failed,
-  not_shut,
-  weaker_entry,
-}
+use Rattle.waitress_serve.proofs.Ends.{answered_end, each_append, each_both, each_front, each_map}
+use Rattle.waitress_serve.proofs.Ends.{each_none, none_counted, none_failed, not_shut, weaker_entry}
 
 -- ---- nobody was served
 

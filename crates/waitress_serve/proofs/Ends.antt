@@ -1,27 +1,6 @@
 -- Why a link was retired.
-use Rattle.std.proofs.Common.{
-  ◌≡◌,
-  ◌≤◌,
-  ◌+◌,
-  ◌⊎◌,
-  inl,
-  inr,
-  ℕ,
-  zero,
-  suc,
-  Bool,
-  true,
-  false,
-  IsTrue,
-  List,
-  [],
-  ◌∷◌,
-  ◌++◌,
-  length,
-  refl,
-  arith,
-  cond,
-}
+use Rattle.std.proofs.Common.{◌≡◌, ◌≤◌, ◌+◌, ◌⊎◌, inl, inr, ℕ, zero, suc, Bool, true, false, IsTrue}
+use Rattle.std.proofs.Common.{List, [], ◌∷◌, ◌++◌, length, refl, arith, cond}
 use Rattle.std.specs.Prelude.{Option, Some, None, IfSome, filter, ◌≢◌}
 use Rattle.channel.specs.Views.{Owed}
 use Rattle.outside.specs.Causes.{added, raised}
@@ -31,17 +10,8 @@ use Rattle.outside.specs.declared.retired.Retired.{Retired}
 use Rattle.outside.specs.declared.types.End.{End}
 use Rattle.outside.specs.declared.types.End.TheVariants as over
 use Rattle.poll_loop.specs.Connections.{going_on}
-use Rattle.poll_loop.specs.Entries.{
-  EndHolds,
-  EntryHolds,
-  Grounds,
-  IsTimely,
-  Service,
-  app_faults,
-  is_app_fault,
-  is_spill_fault,
-  spill_faults,
-}
+use Rattle.poll_loop.specs.Entries.{EndHolds, EntryHolds, Grounds, IsTimely, Service, app_faults}
+use Rattle.poll_loop.specs.Entries.{is_app_fault, is_spill_fault, spill_faults}
 use Rattle.poll_loop.specs.Lists.{EachIs}
 use Rattle.waitress_serve.specs.Completeness.{IsBrief, IsStill}
 

@@ -1,31 +1,7 @@
 -- What is read of the file of a table.
-use Rattle.std.proofs.Common.{
-  ◌≡◌,
-  ◌≤◌,
-  ◌<◌,
-  ◌+◌,
-  ◌∙◌,
-  ℕ,
-  Bool,
-  true,
-  false,
-  IsTrue,
-  List,
-  length,
-  take,
-  drop,
-  Option,
-  None,
-  Some,
-  Result,
-  Ok,
-  Err,
-  refl,
-  ap,
-  sym,
-  subst,
-  arith,
-}
+use Rattle.std.proofs.Common.{◌≡◌, ◌≤◌, ◌<◌, ◌+◌, ◌∙◌, ℕ, Bool, true, false, IsTrue, List, length}
+use Rattle.std.proofs.Common.{take, drop, Option, None, Some, Result, Ok, Err, refl, ap, sym, subst}
+use Rattle.std.proofs.Common.{arith}
 use Rattle.std.specs.Prelude.{IfOk, IfSome, IsSomeAnd, nat_le, option_map}
 use Rattle.std.proofs.Math.Seq.{take-length}
 use Rattle.std.proofs.lemmas.Bool.{lt-leb}

@@ -1,24 +1,6 @@
 -- Internal: what a command leaves, by how it ended.
-use Rattle.std.specs.Prelude.{
-  ◌≡◌,
-  ◌<◌,
-  ◌≤◌,
-  ℕ,
-  Bool,
-  ◌⊎◌,
-  ◌||◌,
-  true,
-  false,
-  IsTrue,
-  List,
-  [],
-  ◌++◌,
-  Option,
-  Some,
-  Result,
-  Ok,
-  Err,
-}
+use Rattle.std.specs.Prelude.{◌≡◌, ◌<◌, ◌≤◌, ℕ, Bool, ◌⊎◌, ◌||◌, true, false, IsTrue, List, []}
+use Rattle.std.specs.Prelude.{◌++◌, Option, Some, Result, Ok, Err}
 use Rattle.outside.specs.Causes.{Rose, added}
 use Rattle.outside.specs.Net.{NetState}
 use Rattle.outside.specs.declared.retired.Retired.{Retired}

@@ -1,20 +1,6 @@
 -- What a command leaves of the connections that came.
-use Rattle.std.specs.Prelude.{
-  ◌≡◌,
-  ◌≢◌,
-  ◌≤◌,
-  ◌+◌,
-  ◌-◌,
-  ◌⊎◌,
-  ℕ,
-  List,
-  ◌++◌,
-  length,
-  Option,
-  None,
-  Some,
-  IsPermutation,
-}
+use Rattle.std.specs.Prelude.{◌≡◌, ◌≢◌, ◌≤◌, ◌+◌, ◌-◌, ◌⊎◌, ℕ, List, ◌++◌, length, Option, None}
+use Rattle.std.specs.Prelude.{Some, IsPermutation}
 use Rattle.outside.specs.Causes.{Rose, added}
 use Rattle.outside.specs.Net.{NetState, Poll}
 use Rattle.outside.specs.declared.retired.Retired.{Retired}

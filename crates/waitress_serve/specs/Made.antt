@@ -1,27 +1,6 @@
 -- The application that the words name, over some files.
-use Rattle.std.specs.Prelude.{
-  ◌≡◌,
-  ◌+◌,
-  ℕ,
-  Bool,
-  true,
-  false,
-  not,
-  ◌&&◌,
-  IsTrue,
-  List,
-  ◌++◌,
-  codes,
-  decimal,
-  Option,
-  None,
-  Some,
-  is_some,
-  option_map,
-  Result,
-  Ok,
-  Err,
-}
+use Rattle.std.specs.Prelude.{◌≡◌, ◌+◌, ℕ, Bool, true, false, not, ◌&&◌, IsTrue, List, ◌++◌, codes}
+use Rattle.std.specs.Prelude.{decimal, Option, None, Some, is_some, option_map, Result, Ok, Err}
 use Rattle.adjust.specs.declared.types.AppName.{AppName}
 use Rattle.adjust.specs.declared.types.AppName.TheVariants as app
 use Rattle.adjust.specs.declared.types.Command.TheVariants as command

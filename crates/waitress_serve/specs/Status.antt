@@ -1,21 +1,6 @@
 -- By what it is served, when serving ends, and what is printed.
-use Rattle.std.specs.Prelude.{
-  ◌≡◌,
-  ◌+◌,
-  ℕ,
-  IsTrue,
-  List,
-  [],
-  ◌∷◌,
-  ◌++◌,
-  length,
-  take,
-  codes,
-  Option,
-  None,
-  Some,
-  Ok,
-}
+use Rattle.std.specs.Prelude.{◌≡◌, ◌+◌, ℕ, IsTrue, List, [], ◌∷◌, ◌++◌, length, take, codes, Option}
+use Rattle.std.specs.Prelude.{None, Some, Ok}
 use Rattle.adjust.specs.Texts.{check_text_of, help_text_of, listen_text}
 use Rattle.adjust.specs.declared.types.Adjustments.{Adjustments}
 use Rattle.adjust.specs.declared.types.Command.TheVariants as command

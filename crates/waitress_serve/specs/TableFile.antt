@@ -1,21 +1,6 @@
 -- Internal: what is read of the file of a table.
-use Rattle.std.specs.Prelude.{
-  ◌≡◌,
-  ◌≤◌,
-  ◌<◌,
-  ℕ,
-  Bool,
-  IsTrue,
-  List,
-  length,
-  Option,
-  None,
-  Some,
-  IsSomeAnd,
-  Result,
-  Ok,
-  Err,
-}
+use Rattle.std.specs.Prelude.{◌≡◌, ◌≤◌, ◌<◌, ℕ, Bool, IsTrue, List, length, Option, None, Some}
+use Rattle.std.specs.Prelude.{IsSomeAnd, Result, Ok, Err}
 use Rattle.apps.specs.declared.fault.TableFault.{TableFault}
 use Rattle.apps.specs.declared.fault.TableFault.TheVariants.{TooLarge}
 use Rattle.apps.specs.declared.row.Row.{Row}

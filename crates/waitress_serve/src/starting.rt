@@ -1,20 +1,6 @@
 //! From a command to its end.
-ghost use Rattle.std.specs.Prelude.{
-  ◌≡◌,
-  ◌<◌,
-  ◌≤◌,
-  ◌⊎◌,
-  ◌&&◌,
-  ◌||◌,
-  All,
-  IsTrue,
-  false,
-  [],
-  ◌++◌,
-  length,
-  Some,
-  Ok as ok,
-};
+ghost use Rattle.std.specs.Prelude.{◌≡◌, ◌<◌, ◌≤◌, ◌⊎◌, ◌&&◌, ◌||◌, All, IsTrue, false, [], ◌++◌};
+ghost use Rattle.std.specs.Prelude.{length, Some, Ok as ok};
 ghost use Rattle.adjust.specs.Command.{command};
 ghost use Rattle.adjust.specs.CommandLine.{words_of};
 ghost use Rattle.adjust.specs.Names.{KeepsNames};
@@ -24,43 +10,17 @@ ghost use Rattle.poll_loop.specs.Connections.{HasBroken};
 ghost use Rattle.poll_loop.specs.Entries.{EntryHolds};
 ghost use Rattle.poll_loop.specs.Seat.{eyes_of};
 ghost use Rattle.waitress_serve.specs.Completeness.{IsAnswered, IsBrief, IsStill};
-ghost use Rattle.waitress_serve.specs.Conclusions.{
-  BindCount,
-  Concludes,
-  DoneAdds,
-  DoneStops,
-  FailsUnstopped,
-  IsDownBy,
-  IsOfPrinting,
-  IsOfServing,
-  NetLeaves,
-  OutCount,
-  OutLeaves,
-  PollCount,
-  Ran,
-  RanOver,
-  TableCount,
-};
-ghost use Rattle.waitress_serve.specs.Headline.{
-  Added,
-  KeepsLimit,
-  RetiresGiven,
-  SettlesRuns,
-  SettlesSpills,
-  ShutLast,
-  grounds,
-};
+ghost use Rattle.waitress_serve.specs.Conclusions.{BindCount, Concludes, DoneAdds, DoneStops};
+ghost use Rattle.waitress_serve.specs.Conclusions.{FailsUnstopped, IsDownBy, IsOfPrinting};
+ghost use Rattle.waitress_serve.specs.Conclusions.{IsOfServing, NetLeaves, OutCount, OutLeaves};
+ghost use Rattle.waitress_serve.specs.Conclusions.{PollCount, Ran, RanOver, TableCount};
+ghost use Rattle.waitress_serve.specs.Headline.{Added, KeepsLimit, RetiresGiven, SettlesRuns};
+ghost use Rattle.waitress_serve.specs.Headline.{SettlesSpills, ShutLast, grounds};
 ghost use Rattle.waitress_serve.specs.Made.{can_serve, reads_files, reads_table};
 ghost use Rattle.waitress_serve.specs.Owed.{owed_by, service_for, service_with, told_by};
 ghost use Rattle.waitress_serve.specs.Reading.{prints, serves};
-ghost use Rattle.waitress_serve.specs.Status.{
-  addresses_of,
-  limit_by,
-  listen_by,
-  printed,
-  serving_lines,
-  timeout_by,
-};
+ghost use Rattle.waitress_serve.specs.Status.{addresses_of, limit_by, listen_by, printed};
+ghost use Rattle.waitress_serve.specs.Status.{serving_lines, timeout_by};
 
 use crate::conclusion::Conclusion;
 use crate::made::read_table;

@@ -2,15 +2,8 @@
 ghost use Rattle.std.specs.Prelude.{◌≡◌, ◌≤◌, ◌+◌, ◌++◌, ◌⊎◌, IfOk, IsTrue, OnOk, codes, decimal};
 ghost use Rattle.adjust.specs.Texts.{fault_text_of};
 ghost use Rattle.waitress_serve.specs.Made.{fault_reason, reason};
-ghost use Rattle.waitress_serve.specs.Reports.{
-  Leaves,
-  Unwritten,
-  Written,
-  line_of,
-  status_of,
-  text_of,
-  unmade_line,
-};
+ghost use Rattle.waitress_serve.specs.Reports.{Leaves, Unwritten, Written, line_of, status_of};
+ghost use Rattle.waitress_serve.specs.Reports.{text_of, unmade_line};
 
 use crate::made::Unmade;
 use adjust::{UsageFault, fault_text};

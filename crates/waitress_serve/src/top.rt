@@ -7,28 +7,14 @@ ghost use Rattle.outside.specs.Causes.{Rose};
 ghost use Rattle.poll_loop.specs.Accounts.{Stops};
 ghost use Rattle.poll_loop.specs.Entries.{EntryHolds};
 ghost use Rattle.waitress_serve.specs.Completeness.{Completes, IsBrief, IsStill};
-ghost use Rattle.waitress_serve.specs.Headline.{
-  Added,
-  KeepsLimit,
-  RetiresGiven,
-  SettlesRuns,
-  SettlesSpills,
-  ShutLast,
-  WentDown,
-  grounds,
-};
+ghost use Rattle.waitress_serve.specs.Headline.{Added, KeepsLimit, RetiresGiven, SettlesRuns};
+ghost use Rattle.waitress_serve.specs.Headline.{SettlesSpills, ShutLast, WentDown, grounds};
 ghost use Rattle.waitress_serve.specs.Made.{CannotMake, can_serve, reads_files, reads_table};
 ghost use Rattle.waitress_serve.specs.Owed.{is_told, owed, service};
 ghost use Rattle.waitress_serve.specs.Reading.{is_faulty, is_unbuilt, prints, serves};
 ghost use Rattle.waitress_serve.specs.Reports.{Reports, Writes, WritesSome};
-ghost use Rattle.waitress_serve.specs.Status.{
-  MeetsLimit,
-  WritesPart,
-  limit_by,
-  listen_by,
-  printed,
-  timeout_by,
-};
+ghost use Rattle.waitress_serve.specs.Status.{MeetsLimit, WritesPart, limit_by, listen_by, printed};
+ghost use Rattle.waitress_serve.specs.Status.{timeout_by};
 ghost use Rattle.waitress_serve.specs.declared.made.Unmade.{Unmade};
 
 use crate::conclusion::Conclusion;

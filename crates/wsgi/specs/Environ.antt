@@ -3,32 +3,9 @@
 -- .multiprocess, .run_once) and GATEWAY_INTERFACE. Three variables are looser than there:
 -- SERVER_NAME of an address of version 6 has no brackets, SCRIPT_NAME is the prefix of any path,
 -- and REMOTE_ADDR is any token that a trusted proxy tells.
-use Rattle.std.specs.Prelude.{
-  ℕ,
-  Bool,
-  true,
-  not,
-  ◌==◌,
-  ◌&&◌,
-  List,
-  [],
-  ◌∷◌,
-  ◌++◌,
-  length,
-  take,
-  drop,
-  map,
-  codes,
-  decimal,
-  find,
-  Option,
-  Some,
-  option_map,
-  unwrap_or,
-  Result,
-  Ok,
-  if◌then◌else◌,
-}
+use Rattle.std.specs.Prelude.{ℕ, Bool, true, not, ◌==◌, ◌&&◌, List, [], ◌∷◌, ◌++◌, length, take}
+use Rattle.std.specs.Prelude.{drop, map, codes, decimal, find, Option, Some, option_map, unwrap_or}
+use Rattle.std.specs.Prelude.{Result, Ok, if◌then◌else◌}
 use Rattle.std.specs.Char.{to_ascii_uppercase}
 use Rattle.std.specs.List.{filter, list_any}
 use Rattle.std.specs.Option.{option_to_list}

@@ -147,7 +147,9 @@ fn expected_size(site: &Site, peer: &Peer, head: &Head, told: &Trusted<'_>) -> u
     }
     for field in told.fields.as_slice() {
         let name = PREFIX_SIZE.saturating_add(field.name().len());
-        size = size.saturating_add(name).saturating_add(field.value().len());
+        size = size
+            .saturating_add(name)
+            .saturating_add(field.value().len());
     }
     size
 }

@@ -1,27 +1,9 @@
 //! The calls of a link in memory.
-ghost use Rattle.std.specs.Prelude.{
-  ◌≡◌,
-  ◌≤◌,
-  ◌<◌,
-  ◌+◌,
-  ◌++◌,
-  true,
-  IsTrue,
-  length,
-  vec_len,
-  vec_capacity,
-  slice_get,
-};
+ghost use Rattle.std.specs.Prelude.{◌≡◌, ◌≤◌, ◌<◌, ◌+◌, ◌++◌, true, IsTrue, length, vec_len};
+ghost use Rattle.std.specs.Prelude.{vec_capacity, slice_get};
 ghost use Rattle.outside.specs.Causes.{raised};
-ghost use Rattle.outside.specs.Link.{
-  Receives,
-  Sends,
-  GotWithin,
-  TookWithin,
-  RecvCause,
-  SendCause,
-  stamped,
-};
+ghost use Rattle.outside.specs.Link.{Receives, Sends, GotWithin, TookWithin, RecvCause, SendCause};
+ghost use Rattle.outside.specs.Link.{stamped};
 ghost use Rattle.outside.specs.MemLink.{within, recv_answer, reads_after, recv_faults, send_faults, SendsByPlan};
 ghost use Rattle.outside.specs.Memory.{is_listed};
 

@@ -1,50 +1,15 @@
 //! The calls of a net in memory.
-ghost use Rattle.std.specs.Prelude.{
-  ◌≡◌,
-  ◌<◌,
-  ◌≤◌,
-  ◌-◌,
-  ◌++◌,
-  ◌∷◌,
-  [],
-  ◌↔◌,
-  ◌&&◌,
-  ℕ,
-  true,
-  is_some,
-  IsTrue,
-  IsErr,
-  IsErrOf,
-  IfOk,
-  OnOk,
-  OnErr,
-  IfSome,
-  Some,
-  All,
-  length,
-  map,
-};
+ghost use Rattle.std.specs.Prelude.{◌≡◌, ◌<◌, ◌≤◌, ◌-◌, ◌++◌, ◌∷◌, [], ◌↔◌, ◌&&◌, ℕ, true, is_some};
+ghost use Rattle.std.specs.Prelude.{IsTrue, IsErr, IsErrOf, IfOk, OnOk, OnErr, IfSome, Some, All};
+ghost use Rattle.std.specs.Prelude.{length, map};
 ghost use Rattle.outside.specs.Causes.{HasCause, faults_after, raised};
 ghost use Rattle.outside.specs.Link.{opened};
 ghost use Rattle.outside.specs.Memory.{is_listed};
-ghost use Rattle.outside.specs.MemNet.{
-  TurnByPlan,
-  AcceptsByPlan,
-  IsReady,
-  first_due,
-  stops_at,
-  found_after,
-};
+ghost use Rattle.outside.specs.MemNet.{TurnByPlan, AcceptsByPlan, IsReady, first_due, stops_at};
+ghost use Rattle.outside.specs.MemNet.{found_after};
 ghost use Rattle.outside.specs.Moments.{moment_at};
-ghost use Rattle.outside.specs.Net.{
-  Polls,
-  Accepts,
-  AcceptCause,
-  TakesKey,
-  asked_of,
-  last_moment,
-  moment_after,
-};
+ghost use Rattle.outside.specs.Net.{Polls, Accepts, AcceptCause, TakesKey, asked_of, last_moment};
+ghost use Rattle.outside.specs.Net.{moment_after};
 
 use super::MemNet;
 use super::told::{Addresses, FirstMoment, Latest, OneMore, Seen};

@@ -1,17 +1,5 @@
-use Rattle.std.proofs.Common.{
-  rules,
-  arith,
-  ◌≡◌,
-  ◌+◌,
-  ◌∷◌,
-  [],
-  ◌++◌,
-  ap,
-  sym,
-  length,
-  length-append,
-  ◌∙◌,
-}
+use Rattle.std.proofs.Common.{rules, arith, ◌≡◌, ◌+◌, ◌∷◌, [], ◌++◌, ap, sym, length, length-append}
+use Rattle.std.proofs.Common.{◌∙◌}
 use Rattle.gate_numbers.specs.Numbers.{taken}
 use Rattle.gate_numbers.proofs.Lists.{takes_more}
 use Rattle.gate_numbers.proofs.threads.take_often.Goals as goal

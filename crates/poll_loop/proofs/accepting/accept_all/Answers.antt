@@ -1,37 +1,12 @@
-use Rattle.std.proofs.Common.{
-  ◌≡◌,
-  ◌<◌,
-  ◌∙◌,
-  inl,
-  false,
-  arith,
-  refl,
-  sym,
-  subst,
-  length,
-  nat_lt,
-  vec_len,
-}
+use Rattle.std.proofs.Common.{◌≡◌, ◌<◌, ◌∙◌, inl, false, arith, refl, sym, subst, length, nat_lt}
+use Rattle.std.proofs.Common.{vec_len}
 use Rattle.std.specs.Prelude.{◌&&◌}
 use Rattle.poll_loop.specs.Connections.{CameCause}
 use Rattle.poll_loop.specs.Settings.{is_below}
 use Rattle.poll_loop.proofs.Books.{entry_holds_later}
-use Rattle.poll_loop.proofs.Coming.{
-  full_came,
-  full_seats,
-  full_until,
-  has_room,
-  last_accounts,
-  last_came,
-  last_more,
-  last_polls,
-  last_takes,
-  last_until,
-  one_more,
-  room_more,
-  some_round,
-  start_accepting,
-}
+use Rattle.poll_loop.proofs.Coming.{full_came, full_seats, full_until, has_room, last_accounts}
+use Rattle.poll_loop.proofs.Coming.{last_came, last_more, last_polls, last_takes, last_until}
+use Rattle.poll_loop.proofs.Coming.{one_more, room_more, some_round, start_accepting}
 use Rattle.poll_loop.proofs.accepting.accept_all.Goals as goal
 
 pub loop-init : goal.loop-init

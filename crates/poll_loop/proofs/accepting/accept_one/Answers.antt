@@ -6,14 +6,8 @@ use Rattle.outside.specs.Net.{Accepts, GivesLink}
 use Rattle.poll_loop.specs.Connections.{seated}
 use Rattle.poll_loop.specs.Seat.{eyes_of}
 use Rattle.poll_loop.proofs.Books.{time_same, within_later}
-use Rattle.poll_loop.proofs.Coming.{
-  accounts_asked,
-  accounts_refused,
-  accounts_seated,
-  entry_refused,
-  seated_one,
-  telling_link,
-}
+use Rattle.poll_loop.proofs.Coming.{accounts_asked, accounts_refused, accounts_seated}
+use Rattle.poll_loop.proofs.Coming.{entry_refused, seated_one, telling_link}
 use Rattle.poll_loop.proofs.accepting.accept_one.Goals as goal
 
 pub returns-in-Ok-None-clause-accounts : goal.returns-in-Ok-None-clause-accounts

@@ -1,19 +1,5 @@
-use Rattle.std.proofs.Common.{
-  arith,
-  ◌<◌,
-  ℕ,
-  List,
-  length,
-  ap,
-  sym,
-  subst,
-  ◌∙◌,
-  add-one,
-  slice_index_or,
-  slice_set,
-  false,
-  rules,
-}
+use Rattle.std.proofs.Common.{arith, ◌<◌, ℕ, List, length, ap, sym, subst, ◌∙◌, add-one}
+use Rattle.std.proofs.Common.{slice_index_or, slice_set, false, rules}
 use Rattle.std.specs.List.{length_refill}
 use Rattle.outside.specs.declared.types.Want.{Want}
 use Rattle.channel.specs.declared.types.Window.{Window}
@@ -21,14 +7,8 @@ use Rattle.poll_loop.specs.Lists.{Paired, UpTo}
 use Rattle.poll_loop.specs.Seat.{Eyes, SeatAsks, SeatHolds, SeatTurns, eyes_of, viewed}
 use Rattle.poll_loop.specs.declared.seat.Seat.{Seat}
 use Rattle.poll_loop.proofs.Leaving.{turned}
-use Rattle.poll_loop.proofs.UpTo.{
-  paired_at,
-  paired_length,
-  up_to_all,
-  up_to_length,
-  up_to_at,
-  up_to_more,
-}
+use Rattle.poll_loop.proofs.UpTo.{paired_at, paired_length, up_to_all, up_to_length, up_to_at}
+use Rattle.poll_loop.proofs.UpTo.{up_to_more}
 use Rattle.poll_loop.proofs.attending.attend_all.Goals as goal
 
 abbrev no_want : Want

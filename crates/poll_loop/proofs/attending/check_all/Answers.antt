@@ -1,34 +1,12 @@
-use Rattle.std.proofs.Common.{
-  ◌≡◌,
-  ◌<◌,
-  ◌+◌,
-  ℕ,
-  List,
-  length,
-  ap,
-  sym,
-  subst,
-  ◌∙◌,
-  arith,
-  add-one,
-  slice_index_or,
-  slice_set,
-  false,
-}
+use Rattle.std.proofs.Common.{◌≡◌, ◌<◌, ◌+◌, ℕ, List, length, ap, sym, subst, ◌∙◌, arith, add-one}
+use Rattle.std.proofs.Common.{slice_index_or, slice_set, false}
 use Rattle.channel.specs.declared.types.Window.{Window}
 use Rattle.poll_loop.specs.Lists.{EachIs, UpTo}
 use Rattle.poll_loop.specs.Seat.{Eyes, SeatChecks, SeatOut, eyes_of, is_open}
 use Rattle.poll_loop.specs.declared.seat.Seat.{Seat}
 use Rattle.poll_loop.proofs.Leaving.{checked, is_up, unchecked}
-use Rattle.poll_loop.proofs.UpTo.{
-  both_of,
-  each_at,
-  same_at,
-  up_to_at,
-  up_to_keep,
-  up_to_length,
-  up_to_more,
-}
+use Rattle.poll_loop.proofs.UpTo.{both_of, each_at, same_at, up_to_at, up_to_keep, up_to_length}
+use Rattle.poll_loop.proofs.UpTo.{up_to_more}
 use Rattle.poll_loop.proofs.attending.check_all.Goals as goal
 use Rattle.poll_loop.proofs.attending.check_all.Goals.{then-is_open, else-is_open}
 

@@ -2,21 +2,9 @@ use Rattle.std.proofs.Common.{◌≤◌, ◌<◌, length, arith, refl, subst, �
 use Rattle.poll_loop.specs.Connections.{IsOpenedBy}
 use Rattle.poll_loop.specs.Retiring.{EndsAt}
 use Rattle.poll_loop.proofs.Entries.{entry_goes_on}
-use Rattle.poll_loop.proofs.Sifting.{
-  bears_there,
-  counted_one,
-  drop_at,
-  keep_at,
-  one_fewer,
-  one_open,
-  over_there,
-  sifted,
-  sifted_accounts,
-  sifts_at,
-  sifts_none,
-  so_there,
-  timely_there,
-}
+use Rattle.poll_loop.proofs.Sifting.{bears_there, counted_one, drop_at, keep_at, one_fewer}
+use Rattle.poll_loop.proofs.Sifting.{one_open, over_there, sifted, sifted_accounts, sifts_at}
+use Rattle.poll_loop.proofs.Sifting.{sifts_none, so_there, timely_there}
 use Rattle.poll_loop.proofs.retiring.retire_over.Goals as goal
 
 pub loop-i-init : goal.loop-i-init

@@ -1,15 +1,8 @@
 use Rattle.std.proofs.Common.{◌<◌, ◌∙◌, length, arith, refl}
 use Rattle.poll_loop.specs.Connections.{IsOpenedBy}
 use Rattle.poll_loop.proofs.Entries.{entry_goes_on}
-use Rattle.poll_loop.proofs.Shutting.{
-  next_fewer,
-  next_open,
-  next_timely,
-  of_next,
-  shut_next,
-  shut_none,
-  taken_first,
-}
+use Rattle.poll_loop.proofs.Shutting.{next_fewer, next_open, next_timely, of_next, shut_next}
+use Rattle.poll_loop.proofs.Shutting.{shut_none, taken_first}
 use Rattle.poll_loop.proofs.Sifting.{counted_one}
 use Rattle.poll_loop.proofs.retiring.shut_down.Goals as goal
 

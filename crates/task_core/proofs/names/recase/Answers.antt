@@ -1,17 +1,5 @@
-use Rattle.std.proofs.Common.{
-  ◌≡◌,
-  ◌≤◌,
-  ◌∙◌,
-  ◌++◌,
-  [],
-  ap,
-  sym,
-  length,
-  take,
-  drop,
-  append-nil,
-  arith,
-}
+use Rattle.std.proofs.Common.{◌≡◌, ◌≤◌, ◌∙◌, ◌++◌, [], ap, sym, length, take, drop, append-nil}
+use Rattle.std.proofs.Common.{arith}
 use Rattle.std.proofs.lemmas.List.{take_all, drop_all}
 use Rattle.task_core.proofs.Recasing.{cased, recased_is}
 use Rattle.task_core.proofs.names.recase.Goals as goal

@@ -1,18 +1,5 @@
-use Rattle.std.proofs.Common.{
-  ◌≡◌,
-  Bool,
-  List,
-  ℕ,
-  true,
-  false,
-  length,
-  Some,
-  None,
-  refl,
-  ap,
-  ◌++◌,
-  ◌∙◌,
-}
+use Rattle.std.proofs.Common.{◌≡◌, Bool, List, ℕ, true, false, length, Some, None, refl, ap, ◌++◌}
+use Rattle.std.proofs.Common.{◌∙◌}
 use Rattle.std.specs.Prelude.{if◌then◌else◌}
 use Rattle.task_core.specs.Answer.{layout_by, length_told}
 use Rattle.task_core.specs.Sending.{passed}

@@ -1,30 +1,9 @@
-use Rattle.std.proofs.Common.{
-  rules,
-  ◌≡◌,
-  ◌∙◌,
-  ◌++◌,
-  [],
-  ◌∷◌,
-  IsTrue,
-  List,
-  ℕ,
-  ap,
-  append_assoc,
-  false,
-  refl,
-  subst,
-  sym,
-}
+use Rattle.std.proofs.Common.{rules, ◌≡◌, ◌∙◌, ◌++◌, [], ◌∷◌, IsTrue, List, ℕ, ap, append_assoc}
+use Rattle.std.proofs.Common.{false, refl, subst, sym}
 use Rattle.std.specs.Prelude.{is_none, unwrap_or}
 use Rattle.task_core.specs.Steps.{text_of}
-use Rattle.task_core.proofs.Chains.{
-  Writes,
-  at_script_end,
-  behind_part,
-  ends_there,
-  last_step,
-  no_steps,
-}
+use Rattle.task_core.proofs.Chains.{Writes, at_script_end, behind_part, ends_there, last_step}
+use Rattle.task_core.proofs.Chains.{no_steps}
 use Rattle.task_core.proofs.script_tests.written.Goals as goal
 
 regrouped : (a b c mid : List ℕ) → mid ≡ a ++ b → a ++ (b ++ c) ≡ mid ++ c

@@ -1,11 +1,6 @@
 use Rattle.std.proofs.Common.{◌∙◌, sym, drop, suc, arith}
-use Rattle.task_core.proofs.Lengths.{
-  bad_length,
-  none_left,
-  read_whole,
-  refused_here,
-  second_declared,
-}
+use Rattle.task_core.proofs.Lengths.{bad_length, none_left, read_whole, refused_here}
+use Rattle.task_core.proofs.Lengths.{second_declared}
 use Rattle.task_core.proofs.starts.declared.Goals as goal
 
 pub returns : goal.returns

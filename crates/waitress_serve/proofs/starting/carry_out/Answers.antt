@@ -5,20 +5,9 @@ use Rattle.adjust.specs.declared.types.AppName.TheVariants as app
 use Rattle.adjust.specs.declared.types.Command.{Command}
 use Rattle.adjust.specs.declared.types.Command.TheVariants as command
 use Rattle.waitress_serve.specs.Reading.{prints}
-use Rattle.waitress_serve.proofs.Applications.{
-  and_first,
-  can_not,
-  directory_ran,
-  echo_ran,
-  lack_of,
-  nobody_ran,
-  printing_concludes,
-  rows_made,
-  rows_of,
-  same_count,
-  serving_concludes,
-  table_ran,
-}
+use Rattle.waitress_serve.proofs.Applications.{and_first, can_not, directory_ran, echo_ran, lack_of}
+use Rattle.waitress_serve.proofs.Applications.{nobody_ran, printing_concludes, rows_made, rows_of}
+use Rattle.waitress_serve.proofs.Applications.{same_count, serving_concludes, table_ran}
 use Rattle.waitress_serve.proofs.Concluded.{stays}
 use Rattle.waitress_serve.proofs.starting.carry_out.Goals as goal
 

@@ -5,16 +5,9 @@ use Rattle.adjust.specs.declared.types.UsageFault.{UsageFault}
 use Rattle.adjust.specs.declared.types.UsageFault.TheVariants.{NoMemory}
 use Rattle.waitress_serve.specs.Reading.{Reading}
 use Rattle.waitress_serve.specs.Status.{listen_by}
-use Rattle.waitress_serve.proofs.Concluded.{
-  keeps_same,
-  nobody_given,
-  no_run_settled,
-  nothing_added,
-  nothing_settled,
-  read_complete,
-  read_headline,
-  settles_runs,
-}
+use Rattle.waitress_serve.proofs.Concluded.{keeps_same, nobody_given, no_run_settled, nothing_added}
+use Rattle.waitress_serve.proofs.Concluded.{nothing_settled, read_complete, read_headline}
+use Rattle.waitress_serve.proofs.Concluded.{settles_runs}
 use Rattle.waitress_serve.proofs.starting.run_words.Goals as goal
 
 -- a fault that isn't want of memory is that of the words

@@ -4,16 +4,8 @@ use Rattle.outside.specs.Net.{NetState}
 use Rattle.outside.specs.declared.types.Listen.{Listen}
 use Rattle.waitress_serve.specs.Conclusions.{PollCount, conclusion_of}
 use Rattle.waitress_serve.specs.Status.{WritesPart, addresses_of, serving_lines}
-use Rattle.waitress_serve.proofs.Concluded.{
-  bind_count,
-  is_of_serving,
-  out_count,
-  out_leaves,
-  poll_count,
-  ran_none,
-  started_ran,
-  started_stops,
-}
+use Rattle.waitress_serve.proofs.Concluded.{bind_count, is_of_serving, out_count, out_leaves}
+use Rattle.waitress_serve.proofs.Concluded.{poll_count, ran_none, started_ran, started_stops}
 use Rattle.waitress_serve.proofs.TextLemmas.{part_written}
 use Rattle.waitress_serve.proofs.starting.start.Goals as goal
 

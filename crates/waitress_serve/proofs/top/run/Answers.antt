@@ -2,27 +2,12 @@ use Rattle.std.proofs.Common.{inl, inr, refl}
 use Rattle.waitress_serve.specs.declared.conclusion.Conclusion.TheVariants as conclusion
 use Rattle.waitress_serve.specs.Reports.{binding, lacking, memory, polling, silence, unbuilt, usage}
 use Rattle.waitress_serve.proofs.Applications.{can_not}
-use Rattle.waitress_serve.proofs.Completing.{
-  can_is_serving,
-  cannot_serve,
-  completes_done,
-  completes_no_memory,
-  memory_ends,
-  served_is_built,
-  served_is_sound,
-  unmade_ends,
-  unraised,
-}
+use Rattle.waitress_serve.proofs.Completing.{can_is_serving, cannot_serve, completes_done}
+use Rattle.waitress_serve.proofs.Completing.{completes_no_memory, memory_ends, served_is_built}
+use Rattle.waitress_serve.proofs.Completing.{served_is_sound, unmade_ends, unraised}
 use Rattle.waitress_serve.proofs.Concluded.{added_for, report_down}
-use Rattle.waitress_serve.proofs.TextLemmas.{
-  cuts_either,
-  cuts_none,
-  out_part,
-  writes_either,
-  writes_none,
-  writes_some,
-  writes_text,
-}
+use Rattle.waitress_serve.proofs.TextLemmas.{cuts_either, cuts_none, out_part, writes_either}
+use Rattle.waitress_serve.proofs.TextLemmas.{writes_none, writes_some, writes_text}
 use Rattle.waitress_serve.proofs.top.run.Goals as goal
 
 pub returns-in-Done-clause-headline : goal.returns-in-Done-clause-headline

@@ -1,13 +1,7 @@
 -- A file gives the piece at its place, and a fault leaves it.
 use Rattle.std.proofs.Common.{◌∙◌}
-use Rattle.dir_app.proofs.FileLemmas.{
-  found_end,
-  found_falls,
-  found_fault,
-  found_next,
-  found_within,
-  unseen_fault,
-}
+use Rattle.dir_app.proofs.FileLemmas.{found_end, found_falls, found_fault, found_next, found_within}
+use Rattle.dir_app.proofs.FileLemmas.{unseen_fault}
 use Rattle.dir_app.proofs.file_steps.FileSteps.next.Goals as goal
 
 pub returns-in_err-step-in-Unseen-clause-steps : goal.returns-in_err-step-in-Unseen-clause-steps

@@ -10,14 +10,8 @@ use Rattle.poll_loop.specs.Lists.{Paired}
 use Rattle.poll_loop.specs.Seat.{Eyes, SeatAsks, eyes_of}
 use Rattle.poll_loop.proofs.Books.{accounts_trans, entry_holds_later}
 use Rattle.poll_loop.proofs.Cases.{asks_paired}
-use Rattle.poll_loop.proofs.Carrying.{
-  carries,
-  hosts_more,
-  limit_met,
-  more_same,
-  knows_on,
-  polls_same,
-}
+use Rattle.poll_loop.proofs.Carrying.{carries, hosts_more, limit_met, more_same, knows_on}
+use Rattle.poll_loop.proofs.Carrying.{polls_same}
 use Rattle.poll_loop.proofs.Working.{accounts_as, hosted_room, hosted_timely, who_is}
 use Rattle.poll_loop.proofs.server.Server.carry.Goals as goal
 

@@ -1,20 +1,5 @@
-use Rattle.std.proofs.Common.{
-  rules,
-  ◌≡◌,
-  ℕ,
-  ◌+◌,
-  ◌≤◌,
-  length,
-  List,
-  [],
-  ap,
-  sym,
-  subst,
-  arith,
-  Option,
-  None,
-  Some,
-}
+use Rattle.std.proofs.Common.{rules, ◌≡◌, ℕ, ◌+◌, ◌≤◌, length, List, [], ap, sym, subst, arith}
+use Rattle.std.proofs.Common.{Option, None, Some}
 use Rattle.poll_loop.specs.Connections.{Counted}
 use Rattle.poll_loop.specs.Lists.{EachIs}
 use Rattle.poll_loop.proofs.server.Server.new.Goals as goal

@@ -3,20 +3,9 @@ use Rattle.poll_loop.specs.Seat.{Eyes, eyes_of}
 use Rattle.poll_loop.specs.Connections.{Gathers}
 use Rattle.poll_loop.specs.Server.{serving}
 use Rattle.poll_loop.specs.Settings.{is_below}
-use Rattle.poll_loop.proofs.Polling.{
-  due_by_marks,
-  hosts_polled,
-  is_asked,
-  knows_polled,
-  no_idle_by,
-  now_polled,
-  nudged,
-  on_ok,
-  steps_failed,
-  steps_none,
-  steps_stopped,
-  time_polled,
-}
+use Rattle.poll_loop.proofs.Polling.{due_by_marks, hosts_polled, is_asked, knows_polled, no_idle_by}
+use Rattle.poll_loop.proofs.Polling.{now_polled, nudged, on_ok, steps_failed, steps_none}
+use Rattle.poll_loop.proofs.Polling.{steps_stopped, time_polled}
 use Rattle.poll_loop.proofs.Working.{map_length}
 use Rattle.poll_loop.proofs.server.Server.step.Goals as goal
 

@@ -3,24 +3,10 @@ use Rattle.channel.specs.declared.types.Window.{Window}
 use Rattle.poll_loop.specs.Connections.{IsOpenedBy, SeatIsTimely, is_kept}
 use Rattle.poll_loop.specs.Lists.{EachIs}
 use Rattle.poll_loop.specs.Seat.{Eyes, SeatRests, eyes_of}
-use Rattle.poll_loop.proofs.Cases.{
-  as_many_again,
-  filter_each,
-  opened_again,
-  rest_again,
-  seated_again,
-  timely_again,
-}
-use Rattle.poll_loop.proofs.Working.{
-  accounts_as,
-  hosted_room,
-  hosted_timely,
-  hosts_seats,
-  room_after,
-  timely_goes_on,
-  who_is,
-  within_after,
-}
+use Rattle.poll_loop.proofs.Cases.{as_many_again, filter_each, opened_again, rest_again}
+use Rattle.poll_loop.proofs.Cases.{seated_again, timely_again}
+use Rattle.poll_loop.proofs.Working.{accounts_as, hosted_room, hosted_timely, hosts_seats}
+use Rattle.poll_loop.proofs.Working.{room_after, timely_goes_on, who_is, within_after}
 use Rattle.poll_loop.proofs.server.Server.work.Goals as goal
 
 pub retire_over-requires-clause-by : goal.retire_over-requires-clause-by
