@@ -1,9 +1,8 @@
 -- The parts of a text that is cut at each separator.
-use Rattle.std.proofs.Common.{◌≡◌, ◌<◌, ◌+◌, ◌-◌, ◌∙◌, ℕ, Bool, List, [], ◌∷◌, length, take, drop}
-use Rattle.std.proofs.Common.{None, Some, refl, ap, sym, cond, arith}
+use Rattle.std.proofs.Common.{◌≡◌, ◌+◌, ◌-◌, ◌∙◌, ℕ, Bool, List, [], ◌∷◌, length, take, drop}
+use Rattle.std.proofs.Common.{None, Some, refl, ap, sym, arith}
 use Rattle.std.specs.Prelude.{position}
 use Rattle.std.specs.List.{filter, slice_split}
-use Rattle.std.proofs.lemmas.Bool.{lt-ltb}
 use Rattle.byte_tables.proofs.Cuts.{cut_some, cut_none, rest_is}
 use Rattle.adjust.specs.Lists.{has_bytes, is_separator, onto_parts, parts}
 

@@ -1,7 +1,7 @@
 //! The command line as clap's definition, and what clap finds in the words.
-ghost use Rattle.std.specs.Prelude.{◌≡◌, IfOk, true, false, MatchOption, map};
+ghost use Rattle.std.specs.Prelude.{◌≡◌, IfOk, true, false, MatchOption};
 ghost use Rattle.clap.specs.Words.{app_of, found_of, rule_of, rows_of};
-ghost use Rattle.adjust.specs.CommandLine.{action_for, are_taken, command_line, given};
+ghost use Rattle.adjust.specs.CommandLine.{are_taken, command_line, given};
 ghost use Rattle.adjust.specs.CommandLine.{operand_rule, option_rule, words_of};
 ghost use Rattle.adjust.specs.Options.{row_of};
 

@@ -1,5 +1,5 @@
 //! What the words give, by the names of options and operands.
-ghost use Rattle.std.specs.Prelude.{◌≡◌, find, map, option_map, position, codes};
+ghost use Rattle.std.specs.Prelude.{◌≡◌, find, option_map, position};
 ghost use Rattle.clap.specs.Words.{first_of, found_of, rows_of};
 ghost use Rattle.adjust.specs.Command as spec;
 ghost use Rattle.adjust.specs.Options.{row_of};

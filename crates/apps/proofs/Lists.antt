@@ -2,10 +2,10 @@
 use Rattle.std.proofs.Common.{◌≡◌, ℕ, suc, List, [], ◌∷◌, ◌++◌, length, get_or, Option, Some, None}
 use Rattle.std.proofs.Common.{option_map, Result, Ok, Err, refl, sym, ap, arith, append_assoc}
 use Rattle.std.proofs.lemmas.List.{length-append}
-use Rattle.toml.specs.Data.{Data, Items, no_items, item, Members}
+use Rattle.toml.specs.Data.{no_items, item, Members}
 use Rattle.toml.specs.View.{view, items_view}
 use Rattle.toml.specs.declared.value.Value.{Value}
-use Rattle.apps.specs.Rows.{each, field_of, row_of}
+use Rattle.apps.specs.Rows.{field_of, row_of}
 use Rattle.apps.specs.Table.{rows_from, ◌>>=◌}
 use Rattle.apps.specs.declared.row.Row.{Row}
 use Rattle.apps.specs.declared.fault.TableFault.{TableFault}

@@ -1,5 +1,5 @@
 //! Values of a document, each as a key of a row asks for it.
-ghost use Rattle.std.specs.Prelude.{◌≡◌, option_map, IfOk};
+ghost use Rattle.std.specs.Prelude.{◌≡◌, IfOk};
 ghost use Rattle.toml.specs.View.{array_view, view};
 ghost use Rattle.apps.specs.Rows as spec;
 

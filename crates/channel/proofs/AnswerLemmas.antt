@@ -11,7 +11,7 @@ use Rattle.request_stream.specs.declared.types.Refused.{Refused}
 use Rattle.task_core.specs.Answer.{Answer, answer, answer_from, layout_closes, layout_of}
 use Rattle.task_core.specs.Answer.{request_of}
 use Rattle.task_core.specs.Errors.{error_answer, proxy_answer}
-use Rattle.task_core.specs.Steps.{Ends, Follows, GoesBy, onto, remaining, text_of}
+use Rattle.task_core.specs.Steps.{Ends, Follows, GoesBy, remaining, text_of}
 use Rattle.task_core.specs.declared.request.Request.{Request}
 use Rattle.task_core.specs.declared.task.Task.{Task}
 use Rattle.task_core.specs.declared.wrote.Wrote.{Wrote}

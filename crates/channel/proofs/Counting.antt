@@ -1,5 +1,5 @@
 -- As many units were put as the input asks for.
-use Rattle.std.proofs.Common.{◌≡◌, ◌≤◌, Bool, true, false, IsTrue, length, map, take, Option, Some}
+use Rattle.std.proofs.Common.{◌≡◌, false, IsTrue, length, map, take, Option, Some}
 use Rattle.std.proofs.Common.{None}
 use Rattle.std.proofs.Common.{refl, sym, ap, subst, ◌∙◌, arith}
 use Rattle.std.proofs.lemmas.List.{length-map, length-take}

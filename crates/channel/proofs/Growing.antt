@@ -1,6 +1,6 @@
 -- The answers to a longer input begin with those to a shorter one.
 use Rattle.std.proofs.Common.{◌≡◌, Bool, true, false, List, [], ◌++◌, refl, ap, sym, ◌∙◌}
-use Rattle.std.proofs.Common.{append-nil, ◌<◌}
+use Rattle.std.proofs.Common.{append-nil}
 use Rattle.std.proofs.lemmas.List.{map-append}
 use Rattle.channel.proofs.Headline.{joined-closed}
 use Rattle.channel.proofs.Texts.{joined-append}

@@ -3,7 +3,6 @@ use Rattle.std.proofs.Common.{◌≡◌, ◌≤◌, ◌<◌, ◌+◌, ◌-◌, �
 use Rattle.std.proofs.Common.{◌++◌, length, take, drop, Option, Some, None, refl, sym, ap, subst}
 use Rattle.std.proofs.Common.{◌∙◌, arith, lt-ltb, true≢false, append-nil}
 use Rattle.std.specs.Prelude.{◌&&◌, ◌||◌, if◌then◌else◌, is_some, map, min, nat_lt}
-use Rattle.std.proofs.Math.Seq.{take-append_seam}
 use Rattle.std.specs.Option.{ForSome}
 use Rattle.std.specs.List.{list_any}
 use Rattle.std.proofs.lemmas.List.Sums.{fold-append}
@@ -30,7 +29,7 @@ use Rattle.channel.specs.declared.acts.LeftAct.{LeftAct}
 use Rattle.channel.specs.declared.acts.LeftAct.TheVariants.{Put, Drained, Killed, Buried}
 use Rattle.channel.proofs.ActLemmas.{buried_agrees, drained_agrees, killed_agrees, none_buried}
 use Rattle.channel.proofs.ActLemmas.{none_killed, put_agrees, same, touched_agrees}
-use Rattle.channel.proofs.SideLemmas.{no_kill, side_breaks, side_drains, side_kills, side_looks}
+use Rattle.channel.proofs.SideLemmas.{no_kill, side_breaks, side_drains, side_kills}
 use Rattle.channel.proofs.SideLemmas.{side_puts}
 
 module _ {A R S : Type 0} (known : Known A R S) where

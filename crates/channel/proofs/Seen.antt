@@ -1,8 +1,8 @@
 -- What is shown behind each act of the polling side.
-use Rattle.std.proofs.Common.{◌≡◌, ◌≤◌, ◌<◌, ◌+◌, ◌-◌, ℕ, Bool, true, false, List, [], ◌∷◌, ◌++◌}
-use Rattle.std.proofs.Common.{length, Option, Some, None, refl, sym, ap, subst, ◌∙◌, arith}
+use Rattle.std.proofs.Common.{◌≡◌, ◌+◌, ◌-◌, ℕ, Bool, true, false, List, [], ◌∷◌, ◌++◌}
+use Rattle.std.proofs.Common.{Option, Some, None, refl, sym, ap, subst, ◌∙◌, arith}
 use Rattle.std.proofs.Common.{length-append}
-use Rattle.std.specs.Prelude.{◌||◌, not, if◌then◌else◌, is_some}
+use Rattle.std.specs.Prelude.{◌||◌, is_some}
 use Rattle.std.proofs.lemmas.List.Sums.{fold-append}
 use Rattle.outside.specs.declared.types.End.{End}
 use Rattle.outside.specs.declared.types.End.TheVariants as over
@@ -10,7 +10,7 @@ use Rattle.request_stream.specs.Story.{Story}
 use Rattle.request_stream.specs.declared.types.Unit.{Unit as AUnit}
 use Rattle.spill_buffer.specs.Buffer.{Buffered}
 use Rattle.channel.specs.Acting.{length_of}
-use Rattle.channel.specs.Happening.{Concludes, dies_at, Gets, IfAsked, Shortens}
+use Rattle.channel.specs.Happening.{Concludes, dies_at, Gets, IfAsked}
 use Rattle.channel.specs.Histories.{LeftEntry, LeftPast, RightEntry, RightPast, left_acts, left_by}
 use Rattle.channel.specs.Histories.{left_past, left_start, left_turn, right_past}
 use Rattle.channel.specs.Showing.{shown_of}
@@ -19,7 +19,7 @@ use Rattle.channel.specs.declared.near.Near.{Near}
 use Rattle.channel.specs.State.{State}
 use Rattle.channel.specs.Views.{Shown, View}
 use Rattle.channel.specs.declared.acts.LeftAct.{LeftAct}
-use Rattle.channel.specs.declared.acts.LeftAct.TheVariants.{Put, Drained, Killed, Buried}
+use Rattle.channel.specs.declared.acts.LeftAct.TheVariants.{Put, Killed, Buried}
 use Rattle.channel.specs.declared.near.Moved.{Moved}
 use Rattle.channel.specs.declared.types.Window.{Window}
 

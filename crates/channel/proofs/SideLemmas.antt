@@ -122,33 +122,6 @@ module _ {S : Type 0} (spill_tells : Bool) (limits : Limits) (timeout : ℕ) (ol
     timed = λ at now e. absurd (no_kill _ _ alive e);
   }
 
-  -- nothing is put or taken
-  pub side_looks : (buried : new.buried ≡ old.buried) (story : new.story ≡ old.story) →
-      (IsTrue old.tells → new.link.arrivals ≡ old.link.arrivals) →
-      (IsTrue old.tells → new.link.sent ≡ old.link.sent) →
-      (IsTrue old.tells → new.ended ≡ new.link.ended) →
-      (IsTrue old.tells → new.touched ≡ new.link.touched) →
-      KeepsSide spill_tells limits timeout new l
-  side_looks buried story arrivals sent ended touched = record {
-    limits_are = ap (λ s. s.limits) story ∙ was.limits_are;
-    fed = λ t. ap (λ s. s.fed) story ∙ (was.fed (told t) ∙ sym (arrivals (told t)));
-    sent = λ t. sent (told t) ∙ was.sent (told t);
-    ended = λ t. ended (told t);
-    touched = λ t. touched (told t);
-    asked = λ k. subst (λ s. AreAskedAs spill_tells (map asks l.put) (units limits s.fed))
-        (sym story) (was.asked k);
-    front = subst (λ s. AreAskedAs spill_tells (map asks l.put)
-        (take (length l.put) (units limits s.fed))) (sym story) was.front;
-    shut = λ k. ap (λ s. s.over) story ∙ was.shut k;
-    held = λ k. ap (λ s. s.held) story ∙ was.held k;
-    failed = λ e. was.failed (sym (ap (λ s. s.failed) story) ∙ e);
-    buried = buried ∙ was.buried;
-    broke = λ e. absurd (no_kill _ _ alive e);
-    killer = was.killer;
-    link_fault = λ e. absurd (no_kill _ _ alive e);
-    timed = λ at now e. absurd (no_kill _ _ alive e);
-  }
-
   -- it is killed, whatever the last piece brought, and what broke may be taken out at once
   side_ends : (new_left : LeftPast S) (end : End) → new_left.put ≡ l.put → new_left.drained
       ≡ l.drained → new_left.killed ≡ Some end → new.buried ≡ new_left.buried →

@@ -1,29 +1,22 @@
 -- What a step of the answering side is to those who see a channel's numbers alone.
-use Rattle.std.proofs.Common.{◌≡◌, ◌≤◌, ◌<◌, ◌+◌, inl, inr, ℕ, Bool, true, false, IsTrue, List, []}
+use Rattle.std.proofs.Common.{◌≡◌, ◌≤◌, ◌<◌, ◌+◌, ℕ, Bool, true, false, IsTrue, List, []}
 use Rattle.std.proofs.Common.{◌∷◌, ◌++◌, length, Option, Some, None, refl, sym, ap, subst, ◌∙◌}
 use Rattle.std.proofs.Common.{arith, append-nil, length-append, if◌then◌else◌}
-use Rattle.std.specs.Prelude.{◌&&◌, nat_lt, nat_le, is_none, is_some, IsSome, map, option_to_list}
+use Rattle.std.specs.Prelude.{◌&&◌, nat_lt, nat_le, is_none, is_some, map, option_to_list}
 use Rattle.std.specs.List.{list_any}
-use Rattle.std.proofs.lemmas.List.Sums.{fold-append}
 use Rattle.outside.specs.declared.types.End.{End}
 use Rattle.request_stream.specs.Asks.{asks}
 use Rattle.request_stream.specs.Story.{Story}
 use Rattle.request_stream.specs.Units.{closing}
-use Rattle.request_stream.specs.declared.types.Unit.{Unit as AUnit}
 use Rattle.spill_buffer.specs.Buffer.{Buffered}
-use Rattle.channel.specs.Acting.{Adds, length_of, ready_by}
+use Rattle.channel.specs.Acting.{length_of}
 use Rattle.channel.specs.Agreement.{Agrees, Known}
 use Rattle.channel.specs.Histories.{Current, LeftPast, RightEntry, RightPast, right_acts}
-use Rattle.channel.specs.Histories.{right_past, right_start, right_turn, unit_of}
+use Rattle.channel.specs.Histories.{right_turn, unit_of}
 use Rattle.channel.specs.Showing.{shown_of}
 use Rattle.channel.specs.State.{State}
-use Rattle.channel.specs.Stepping.{BeginsInVain, BeginsNext, Rests, StepsTo, Stops, TakesStep}
-use Rattle.channel.specs.Stepping.{WritesLast, WritesOn}
-use Rattle.channel.specs.Views.{Advances, Moves, Shown, is_due}
+use Rattle.channel.specs.Views.{Shown}
 use Rattle.channel.specs.declared.acts.RightAct.{RightAct}
-use Rattle.channel.specs.declared.types.Cause.{Cause}
-use Rattle.channel.specs.declared.types.Progress.{Progress}
-use Rattle.channel.specs.declared.types.Progress.TheVariants as progress
 use Rattle.channel.specs.declared.types.Window.{Window}
 use Rattle.channel.proofs.Texts.{the_current}
 

@@ -1,6 +1,6 @@
 -- What the polling side keeps of its link and of its stream, and what it has told of them.
 use Rattle.std.specs.Prelude.{◌≡◌, ◌≤◌, ◌<◌, ◌+◌, ℕ, Bool, true, false, not, ◌&&◌, ◌||◌, nat_eq}
-use Rattle.std.specs.Prelude.{nat_le, nat_lt, IsTrue, List, ◌++◌, length, take, map, Option, Some}
+use Rattle.std.specs.Prelude.{nat_le, nat_lt, IsTrue, List, ◌++◌, length, take, map, Some}
 use Rattle.std.specs.Prelude.{None, is_some}
 use Rattle.std.specs.List.{list_any}
 use Rattle.std.specs.Option.{ForSome}

@@ -2,14 +2,12 @@
 use Rattle.std.proofs.Common.{◌≡◌, ◌≤◌, ◌<◌, ◌+◌, ◌-◌, ◌^◌, ◌∙◌, ℕ, Bool, true, false, cond, min}
 use Rattle.std.proofs.Common.{List, [], ◌∷◌, length, take, drop, Option, None, Some, Result, Ok}
 use Rattle.std.proofs.Common.{Err, refl, ap, sym, arith}
-use Rattle.std.specs.Prelude.{nat_lt, option_map, unwrap_or, IfSome, IsSomeAnd}
-use Rattle.std.proofs.lemmas.Bool.{lt-ltb}
+use Rattle.std.specs.Prelude.{nat_lt, option_map, unwrap_or, IfSome}
 use Rattle.std.proofs.lemmas.List.{drop_all, drop-drop, length-drop, take_min}
 use Rattle.std.proofs.lemmas.Option.{none-some, same_Some}
 use Rattle.wsgi.specs.declared.step.Step.{Step}
 use Rattle.wsgi.specs.declared.step.Step.TheVariants.{Piece}
 use Rattle.apps.proofs.PieceLemmas.{drop_min, piece_count-suc, pieces-suc}
-use Rattle.apps.specs.Answers.{not_found}
 use Rattle.apps.specs.PieceLaws.{length-pieces}
 use Rattle.apps.specs.Pieces.{piece_count, pieces}
 use Rattle.std.specs.Option.{ForSome}
@@ -22,7 +20,7 @@ use Rattle.dir_app.specs.FileSteps.{file_left, file_rest, place_of, size_of}
 use Rattle.dir_app.specs.declared.text_steps.Text.TheVariants.{NotFound}
 use Rattle.dir_app.specs.declared.file_steps.Progress.{Progress}
 use Rattle.dir_app.specs.declared.file_steps.Progress.TheVariants.{Unseen, Found}
-use Rattle.dir_app.specs.DirScript.{file_script, file_start, sizable}
+use Rattle.dir_app.specs.DirScript.{file_script, sizable}
 
 -- at the end of a file nothing is left
 pub found_over : (at size : ℕ) (file : Option (List ℕ)) → at ≡ size →

@@ -1,6 +1,6 @@
 -- In memory all tells.
-use Rattle.std.proofs.Common.{◌≡◌, ℕ, Bool, true, IsTrue, List, [], ◌∷◌, refl, subst, sym}
-use Rattle.std.specs.Prelude.{Result, Ok, Err}
+use Rattle.std.proofs.Common.{◌≡◌, ℕ, true, List, [], ◌∷◌, refl, subst, sym}
+use Rattle.std.specs.Prelude.{Ok, Err}
 use Rattle.adjust.specs.Command.{command}
 use Rattle.adjust.specs.declared.types.AppName.{AppName}
 use Rattle.adjust.specs.declared.types.AppName.TheVariants as app

@@ -15,7 +15,6 @@ use Rattle.outside.specs.declared.types.End.{End}
 use Rattle.outside.specs.declared.types.End.TheVariants as over
 use Rattle.outside.specs.declared.types.Peer.{Peer}
 use Rattle.poll_loop.specs.Accounts.{Accounts, Books, TimeGoesOn, retired_of}
-use Rattle.poll_loop.specs.Connections.{going_on, shutting_down}
 use Rattle.poll_loop.specs.Entries.{EndHolds, EntryHolds, Grounds, IsTimely, IsWithin, Service}
 use Rattle.poll_loop.specs.Entries.{app_faults, is_app_fault, is_spill_fault, spill_faults}
 use Rattle.poll_loop.specs.Lists.{EachIs}

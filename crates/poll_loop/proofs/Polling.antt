@@ -20,15 +20,14 @@ use Rattle.poll_loop.specs.Lists.{EachIs}
 use Rattle.poll_loop.specs.NoIdle.{AsksNothing, Hosts, NoIdle, Nudges, Serving, is_accepting}
 use Rattle.poll_loop.specs.NoIdle.{is_some_due, views}
 use Rattle.poll_loop.specs.Seat.{Eyes, MarkHolds, SeatRests, viewed}
-use Rattle.poll_loop.specs.Server.{Carries, StepEnds, Steps}
+use Rattle.poll_loop.specs.Server.{Carries, Steps}
 use Rattle.poll_loop.specs.Settings.{is_below}
 use Rattle.poll_loop.specs.declared.seat.Mark.{Mark}
 use Rattle.poll_loop.specs.declared.seat.Mark.TheVariants as mark
 use Rattle.poll_loop.specs.declared.seat.Seat.{Seat}
 use Rattle.poll_loop.specs.declared.settings.ServeFault.{ServeFault}
-use Rattle.poll_loop.specs.declared.turning.Why.{Why}
 use Rattle.poll_loop.specs.declared.turning.Why.TheVariants as why
-use Rattle.poll_loop.proofs.Books.{accounts_none, accounts_refl, accounts_trans}
+use Rattle.poll_loop.proofs.Books.{accounts_none, accounts_refl}
 use Rattle.poll_loop.proofs.Working.{hosted_room, hosted_timely, hosts_seats, timely_goes_on}
 
 more_none : (limit : Option ℕ) (a x : ℕ) → CameMore limit a a x x

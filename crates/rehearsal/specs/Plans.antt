@@ -1,5 +1,5 @@
 -- Who comes to a rehearsal, and how their links give and take.
-use Rattle.std.specs.Prelude.{ℕ, ◌+◌, ◌*◌, ◌%◌, false, List, [], ◌∷◌, length, map, codes, replicate}
+use Rattle.std.specs.Prelude.{ℕ, ◌+◌, ◌*◌, ◌%◌, false, [], ◌∷◌, length, map, codes, replicate}
 use Rattle.std.specs.Prelude.{None}
 use Rattle.std.specs.List.{range_with_len}
 use Rattle.outside.specs.declared.plans.Comer.{Comer}

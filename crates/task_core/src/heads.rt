@@ -3,7 +3,6 @@ ghost use Rattle.std.specs.Prelude.{◌≡◌, ◌++◌, IfOk, OnOk, codes, filt
 ghost use Rattle.std.specs.List.{flat_map};
 ghost use Rattle.std.specs.Option.{option_to_list};
 ghost use Rattle.task_core.specs.Answer as spec;
-ghost use Rattle.task_core.specs.Errors as errors;
 ghost use Rattle.task_core.specs.Fields.{field_of, fields_of};
 ghost use Rattle.task_core.specs.ResponseHead as head;
 ghost use Rattle.task_core.specs.Starts.{is_named};

@@ -1,5 +1,5 @@
 //! Status lines and field lines (RFC 9112, sections 4 and 5).
-ghost use Rattle.std.specs.Prelude.{◌≡◌, ◌++◌, decimal, codes, OnOk};
+ghost use Rattle.std.specs.Prelude.{◌≡◌, ◌++◌, OnOk};
 ghost use Rattle.task_core.specs.ResponseHead as head;
 ghost use Rattle.task_core.specs.Errors as spec;
 

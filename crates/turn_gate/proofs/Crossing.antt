@@ -10,8 +10,6 @@ use Rattle.atomic_table.proofs.send_lease.SendLease.TheSendSync.{the_sync as lea
 use Rattle.turn_gate.specs.declared.pact.Pact.{Ghosts}
 use Rattle.turn_gate.specs.contracts.board.Shelf as Shelf
 use Rattle.turn_gate.specs.contracts.left_end.Left as Left
-use Rattle.turn_gate.specs.contracts.right_end.Right as Right
-use Rattle.turn_gate.specs.contracts.turn.Turn as Turn
 
 pub shelf_send : (S L R : RattleType) → IsSend S → IsSend (Shelf.the_row S L R)
 shelf_send S L R s = search (crosses, sendable) depth 20

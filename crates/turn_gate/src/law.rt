@@ -1,5 +1,4 @@
 //! What holds of a gate between any two of its steps.
-ghost use Rattle.std.specs.Prelude.{◌≡◌, ◌∷◌, []};
 ghost use Rattle.turn_gate.specs.Rule.{Keeps, RefusesWhereHeld};
 
 use crate::board::{Gate, Known, Slot};

@@ -1,5 +1,5 @@
 //! The opening of a gate.
-ghost use Rattle.std.specs.Prelude.{◌≡◌, ◌∷◌, [], IfOk, IfErr};
+ghost use Rattle.std.specs.Prelude.{◌≡◌, [], IfOk, IfErr};
 ghost use Rattle.turn_gate.specs.Ends.{new_end, IsNew};
 ghost use Rattle.turn_gate.specs.declared.board.Side.TheVariants.{Vacant, Left as AtLeft};
 ghost use Rattle.turn_gate.specs.declared.board.Side.TheVariants.{Right as AtRight};

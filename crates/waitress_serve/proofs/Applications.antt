@@ -1,7 +1,7 @@
 -- What serving an application leaves, by the words and the files.
-use Rattle.std.proofs.Common.{◌≡◌, ◌≤◌, ◌+◌, ℕ, Bool, true, false, IsTrue, List, length, refl, ap}
+use Rattle.std.proofs.Common.{◌≡◌, ◌≤◌, ℕ, Bool, true, false, IsTrue, List, length, refl, ap}
 use Rattle.std.proofs.Common.{sym, subst, ◌∙◌, arith}
-use Rattle.std.specs.Prelude.{All, ◌<◌, ◌&&◌, ◌||◌, not, Option, None, Some, is_some, Result, Ok}
+use Rattle.std.specs.Prelude.{All, ◌<◌, ◌&&◌, ◌||◌, not, Option, Some, is_some, Result, Ok}
 use Rattle.std.specs.Prelude.{Err, option_map}
 use Rattle.adjust.specs.declared.types.Adjustments.{Adjustments}
 use Rattle.adjust.specs.declared.types.AppName.{AppName}

@@ -1,5 +1,5 @@
 //! From a command to its end.
-ghost use Rattle.std.specs.Prelude.{◌≡◌, ◌<◌, ◌≤◌, ◌⊎◌, ◌&&◌, ◌||◌, All, IsTrue, false, [], ◌++◌};
+ghost use Rattle.std.specs.Prelude.{◌≡◌, ◌<◌, ◌≤◌, ◌⊎◌, ◌&&◌, ◌||◌, All, IsTrue, false, ◌++◌};
 ghost use Rattle.std.specs.Prelude.{length, Some, Ok as ok};
 ghost use Rattle.adjust.specs.Command.{command};
 ghost use Rattle.adjust.specs.CommandLine.{words_of};
