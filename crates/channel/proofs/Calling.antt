@@ -9,11 +9,12 @@ use Rattle.outside.specs.Causes.{Rose, raised}
 use Rattle.outside.specs.Link.{LinkState, stamped}
 use Rattle.outside.specs.declared.types.End.{End}
 use Rattle.outside.specs.declared.types.End.TheVariants as over
-use Rattle.channel.specs.Happening.{Calls, CheckCalls, Concludes, DrainCalls, FaultsBy, Gives}
+use Rattle.channel.specs.Happening.{CheckCalls, Concludes, DrainCalls, FaultsBy, Gives}
 use Rattle.channel.specs.Happening.{HearsSome, IfAsked, LinkHeard, LinkSaid, ReadCalls, SaysSome}
 use Rattle.channel.specs.Happening.{ShowsHeard, ShowsSaid, Takes, as_acted, dies_at, end_of}
 use Rattle.channel.specs.Happening.{over_or}
-use Rattle.channel.specs.Views.{CheckCause, Checks, DrainCause, Drains, Heard, IsOver, LinkGoes}
+use Rattle.channel.specs.Views.{Calls, CheckCause, Checks, DrainCause, Drains, Heard, IsOver}
+use Rattle.channel.specs.Views.{LinkGoes}
 use Rattle.channel.specs.Views.{MakesNoStep, Moves, ReadCause, Reads, Shown, Spoke, Stamps}
 use Rattle.channel.specs.Views.{StaysDead, StaysOpen, UnlessOver, View, current_of, is_done, is_due}
 use Rattle.channel.specs.Views.{is_late, is_readable, is_working, is_writable, over_by, over_of}
@@ -46,6 +47,15 @@ unless_over P (acted.Over end) o is p = tt
 unless_over P acted.Did o is p = p is
 unless_over P acted.Held o is p = absurd is
 unless_over P acted.Nothing o is p = p is
+
+-- what is as another channel has made as few steps as that one
+same_steps : (o m n : Shown) → n ≡ m → m.begun ≡ o.begun → m.answered ≡ o.answered →
+    m.left ≡ o.left → MakesNoStep o n
+same_steps o m n e begun answered left = record {
+  begun = ap (λ (s : Shown). s.begun) e ∙ begun;
+  answered = ap (λ (s : Shown). s.answered) e ∙ answered;
+  left = ap (λ (s : Shown). s.left) e ∙ left;
+}
 
 and_first : (a b : Bool) → (a && b) ≡ true → a ≡ true
 and_first true b e = refl
@@ -744,49 +754,14 @@ module _ (tells : Bool) (now : ℕ) (w : Window) (what : Moved) (act : Acted) (o
   due_heard moved.NoMemory o n e x d = cc
 
   step_heard : (m : Moved) (o n : Shown) → ShowsHeard now m o n → MakesNoStep o n
-  step_heard moved.Idle o n e = record {
-    begun = ap (λ (s : Shown). s.begun) e;
-    answered =
-        ap (λ (s : Shown). s.answered) e;
-    left = ap (λ (s : Shown). s.left) e;
-  }
-  step_heard moved.PutOff o n e = record {
-    begun = ap (λ (s : Shown). s.begun) e;
-    answered =
-        ap (λ (s : Shown). s.answered) e;
-    left = ap (λ (s : Shown). s.left) e;
-  }
-  step_heard moved.Got o n e = record {
-    begun = ap (λ (s : Shown). s.begun) e.shown;
-    answered =
-        ap (λ (s : Shown). s.answered) e.shown;
-    left = ap (λ (s : Shown). s.left) e.shown;
-  }
-  step_heard moved.Ended o n e = record {
-    begun = ap (λ (s : Shown). s.begun) e;
-    answered =
-        ap (λ (s : Shown). s.answered) e;
-    left = ap (λ (s : Shown). s.left) e;
-  }
+  step_heard moved.Idle o n e = same_steps o _ n e refl refl refl
+  step_heard moved.PutOff o n e = same_steps o _ n e refl refl refl
+  step_heard moved.Got o n e = same_steps o _ n e.shown refl refl refl
+  step_heard moved.Ended o n e = same_steps o _ n e refl refl refl
   step_heard moved.Took o n e = absurd e
-  step_heard moved.Failed o n e = record {
-    begun = ap (λ (s : Shown). s.begun) e;
-    answered =
-        ap (λ (s : Shown). s.answered) e;
-    left = ap (λ (s : Shown). s.left) e;
-  }
-  step_heard moved.Broke o n e = record {
-    begun = ap (λ (s : Shown). s.begun) e;
-    answered =
-        ap (λ (s : Shown). s.answered) e;
-    left = ap (λ (s : Shown). s.left) e;
-  }
-  step_heard moved.NoMemory o n e = record {
-    begun = ap (λ (s : Shown). s.begun) e;
-    answered =
-        ap (λ (s : Shown). s.answered) e;
-    left = ap (λ (s : Shown). s.left) e;
-  }
+  step_heard moved.Failed o n e = same_steps o _ n e refl refl refl
+  step_heard moved.Broke o n e = same_steps o _ n e refl refl refl
+  step_heard moved.NoMemory o n e = same_steps o _ n e refl refl refl
 
   asked_heard : (m : Moved) → (m ≡ moved.Idle → ⊥) → FaultsBy m old.faults mid.faults →
       LinkHeard now m old.link mid.link → Heard old mid
@@ -978,38 +953,13 @@ module _ (tells : Bool) (now : ℕ) (w : Window) (what : Moved) (old mid : View)
   said_dead d = dead_said now what old.shown mid.shown h.says.shown d
 
   step_said : (m : Moved) (o n : Shown) → ShowsSaid now m o n → MakesNoStep o n
-  step_said moved.Idle o n e = record {
-    begun = ap (λ (s : Shown). s.begun) e;
-    answered =
-        ap (λ (s : Shown). s.answered) e;
-    left = ap (λ (s : Shown). s.left) e;
-  }
-  step_said moved.PutOff o n e = record {
-    begun = ap (λ (s : Shown). s.begun) e;
-    answered =
-        ap (λ (s : Shown). s.answered) e;
-    left = ap (λ (s : Shown). s.left) e;
-  }
+  step_said moved.Idle o n e = same_steps o _ n e refl refl refl
+  step_said moved.PutOff o n e = same_steps o _ n e refl refl refl
   step_said moved.Got o n e = absurd e
   step_said moved.Ended o n e = absurd e
-  step_said moved.Took o n e = record {
-    begun = ap (λ (s : Shown). s.begun) e.shown;
-    answered =
-        ap (λ (s : Shown). s.answered) e.shown;
-    left = ap (λ (s : Shown). s.left) e.shown;
-  }
-  step_said moved.Failed o n e = record {
-    begun = ap (λ (s : Shown). s.begun) e;
-    answered =
-        ap (λ (s : Shown). s.answered) e;
-    left = ap (λ (s : Shown). s.left) e;
-  }
-  step_said moved.Broke o n e = record {
-    begun = ap (λ (s : Shown). s.begun) e.shown;
-    answered =
-        ap (λ (s : Shown). s.answered) e.shown;
-    left = ap (λ (s : Shown). s.left) e.shown;
-  }
+  step_said moved.Took o n e = same_steps o _ n e.shown refl refl refl
+  step_said moved.Failed o n e = same_steps o _ n e refl refl refl
+  step_said moved.Broke o n e = same_steps o _ n e.shown refl refl refl
   step_said moved.NoMemory o n e = absurd e
 
   units_said : (m : Moved) (o n : Shown) → ShowsSaid now m o n → units_of n ≡ units_of o

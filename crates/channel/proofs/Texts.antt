@@ -16,7 +16,7 @@ use Rattle.spill_buffer.specs.Buffer.{Buffered, IsToldAs}
 use Rattle.task_core.specs.Answer.{Answer}
 use Rattle.wsgi.specs.declared.site.Site.{Site}
 use Rattle.channel.specs.Acting.{closing_by, goes_on, ready_by}
-use Rattle.channel.specs.Agreement.{Agrees, InOrder, Known, WritesTexts}
+use Rattle.channel.specs.Agreement.{Agrees, InOrder, KeepsBytes, KeepsCounts, Known, WritesTexts}
 use Rattle.channel.specs.Histories.{Current, LeftPast, RightPast, finished_by, is_empty_part}
 use Rattle.channel.specs.Histories.{right_by, unit_of, with_text, written_of}
 use Rattle.channel.specs.Output.{Script, any_closes, answer_for, answers_for, joined}
@@ -24,7 +24,7 @@ use Rattle.channel.specs.State.{State}
 use Rattle.channel.specs.Writing.{GoesBy}
 use Rattle.channel.specs.declared.acts.RightAct.TheVariants.{Wrote}
 use Rattle.channel.specs.declared.types.Cause.{Cause}
-use Rattle.channel.proofs.ActLemmas.{none_broke, same, unbroken}
+use Rattle.channel.proofs.ActLemmas.{lives, none_broke, same}
 
 neither : (a b : Bool) → (a || b) ≡ false → (a ≡ false) × (b ≡ false)
 neither true b e = cc
@@ -176,6 +176,23 @@ module _ {A R S : Type 0} (known : Known A R S) (old : State A R S) (l : LeftPas
   most = let size = told.size in let sum = length-append before.bytes text in let bound =
       le-max_right old.longest (length text) in omega (arith, below, size, sum, bound)
 
+  kept : KeepsBytes known.spill_tells (Some after) l.drained (r.wrote ++ text)
+  kept = record {
+    whole = λ t b e. whole t ∙ ap (λ (x : Buffered S). l.drained ++ x.bytes) (same after b e);
+    front = λ t. ap (λ w. take (length l.drained) w) (whole t)
+        ∙ take-append_seam l.drained after.bytes;
+  }
+
+  counted : (past : RightPast S) → past.longest ≡ max r.longest (length text) →
+      KeepsCounts old.fixed.value.window.high_watermark (max old.longest (length text))
+      (Some after) past
+  counted past longest = record {
+    longest_is = ap (λ n. max n (length text)) was.counts.longest_is ∙ sym longest;
+    most = λ b e. subst (λ (x : Buffered S). length x.bytes
+        ≤ old.fixed.value.window.high_watermark + max old.longest (length text))
+        (same after b e) most;
+  }
+
   -- a part of the answer
   pub wrote_on : is_empty_part None text ≡ false →
       (IsTrue known.app_tells → ForSome r.current (λ c. GoesBy
@@ -184,11 +201,7 @@ module _ {A R S : Type 0} (known : Known A R S) (old : State A R S) (l : LeftPas
       Agrees known (new None) l (right_by r (Wrote text None))
   wrote_on some goes = record {
     order = was.order;
-    bytes = record {
-      whole = λ t b e. whole t ∙ ap (λ (x : Buffered S). l.drained ++ x.bytes) (same after b e);
-      front = λ t. ap (λ w. take (length l.drained) w) (whole t)
-          ∙ take-append_seam l.drained after.bytes;
-    };
+    bytes = kept;
     texts = λ t. texts_on _ _ _ r cur.0 cur.1 text (was.texts t) (goes t cur.0 cur.1);
     course = record {
       current_is = ap (λ o. is_some (option_map (with_text text) o)) (sym cur.1);
@@ -198,21 +211,8 @@ module _ {A R S : Type 0} (known : Known A R S) (old : State A R S) (l : LeftPas
       strict = strict r.stray r.current cur.0 r.broke _ was.course.strict cur.1
           (none_broke _ _ _ _ _ _ _ _ was.death alive) some;
     };
-    death = record {
-      dead_is = was.death.dead_is;
-      one = was.death.one;
-      strict = was.death.strict;
-      buried = was.death.buried;
-      broken = λ e. unbroken _ _ _ r.broke old.fallen (Some after)
-          (none_broke _ _ _ _ _ _ _ _ was.death alive);
-      stands = λ e. refl;
-    };
-    counts = record {
-      longest_is = ap (λ n. max n (length text)) was.counts.longest_is;
-      most = λ b e. subst (λ (x : Buffered S). length x.bytes
-          ≤ old.fixed.value.window.high_watermark + max old.longest (length text))
-          (same after b e) most;
-    };
+    death = lives _ _ _ _ _ _ after l r _ refl alive was.death;
+    counts = counted _ refl;
   }
     where
       by : (o : Option (Current S)) → r.finished ++ map unit_of (option_to_list o)
@@ -232,11 +232,7 @@ module _ {A R S : Type 0} (known : Known A R S) (old : State A R S) (l : LeftPas
       Agrees known (new (Some closes)) l (right_by r (Wrote text (Some closes)))
   wrote_last closes goes = record {
     order = order closes;
-    bytes = record {
-      whole = λ t b e. whole t ∙ ap (λ (x : Buffered S). l.drained ++ x.bytes) (same after b e);
-      front = λ t. ap (λ w. take (length l.drained) w) (whole t)
-          ∙ take-append_seam l.drained after.bytes;
-    };
+    bytes = kept;
     texts = λ t. texts_end _ _ _ r cur.0 cur.1 text (was.texts t) closes open' (goes t cur.0 cur.1);
     course = record {
       current_is = refl;
@@ -246,21 +242,8 @@ module _ {A R S : Type 0} (known : Known A R S) (old : State A R S) (l : LeftPas
       strict = strict r.stray r.current cur.0 r.broke false was.course.strict cur.1
           (none_broke _ _ _ _ _ _ _ _ was.death alive) refl;
     };
-    death = record {
-      dead_is = was.death.dead_is;
-      one = was.death.one;
-      strict = was.death.strict;
-      buried = was.death.buried;
-      broken = λ e. unbroken _ _ _ r.broke old.fallen (Some after)
-          (none_broke _ _ _ _ _ _ _ _ was.death alive);
-      stands = λ e. refl;
-    };
-    counts = record {
-      longest_is = ap (λ n. max n (length text)) was.counts.longest_is;
-      most = λ b e. subst (λ (x : Buffered S). length x.bytes
-          ≤ old.fixed.value.window.high_watermark + max old.longest (length text))
-          (same after b e) most;
-    };
+    death = lives _ _ _ _ _ _ after l r _ refl alive was.death;
+    counts = counted _ refl;
   }
     where
       order : (closes : Bool) → InOrder closes l.put r.began (ready_by (Some closes) old.ready)

@@ -1,13 +1,13 @@
 -- What one recv, one send and the end of a call come to, by what is shown.
-use Rattle.std.specs.Prelude.{◌≡◌, ◌≤◌, ◌<◌, ◌+◌, ◌⊎◌, ℕ, Bool, true, false, not, ◌||◌, IsTrue}
-use Rattle.std.specs.Prelude.{List, ◌++◌, length, is_some, IsSome, Option, Some, None}
+use Rattle.std.specs.Prelude.{◌≡◌, ◌≤◌, ◌<◌, ◌+◌, ℕ, Bool, true, false, not, ◌||◌, IsTrue}
+use Rattle.std.specs.Prelude.{List, ◌++◌, length, is_some, Option, Some, None}
 use Rattle.outside.specs.Causes.{Rose, raised}
 use Rattle.outside.specs.Link.{LinkState, stamped}
 use Rattle.outside.specs.declared.types.End.{End}
 use Rattle.outside.specs.declared.types.End.TheVariants as over
-use Rattle.channel.specs.Views.{CheckCause, Checks, DrainCause, Drains, IsOver, LinkGoes, Moves}
-use Rattle.channel.specs.Views.{ReadCause, Reads, Shown, Stamps, StaysDead, StaysOpen, UnlessOver}
-use Rattle.channel.specs.Views.{View, is_readable, is_writable, over_of}
+use Rattle.channel.specs.Views.{Calls, CheckCause, Checks, DrainCause, Drains, ReadCause, Reads}
+use Rattle.channel.specs.Views.{Shown, UnlessOver}
+use Rattle.channel.specs.Views.{View, is_readable, is_writable}
 use Rattle.channel.specs.declared.near.Moved.{Moved}
 use Rattle.channel.specs.declared.near.Moved.TheVariants as moved
 use Rattle.channel.specs.declared.types.Acted.{Acted}
@@ -193,19 +193,6 @@ dies_at at view = record view {
         Some (over.TimedOut view.shown.touched at);
   };
 }
-
--- what the calls of the polling side have in common
-pub record Calls (tells : Bool) (now : ℕ) (act : Acted) (old new : View) : Type 0 where
-  pub faults : old.faults ≤ new.faults
-  -- a link that failed goes before every other end
-  pub link_first : (new.faults ≡ old.faults) ⊎ (act ≡ acted.Over over.LinkFault)
-  pub over : IsOver act (over_of new.shown)
-  pub stays_dead : IsSome old.shown.dead → StaysDead old new
-  pub moves : Moves old.shown new.shown
-  pub goes : IsTrue tells → LinkGoes old new
-  pub stamps : IsTrue tells → Stamps now old.link new.link
-  pub stays : UnlessOver act (StaysOpen old new)
-  pub touches : (new.shown.touched ≡ old.shown.touched) ⊎ (new.shown.touched ≡ now)
 
 pub record ReadCalls (tells : Bool) (now : ℕ) (w : Window) (act : Acted)
     (old new : View) : Type 0 where

@@ -14,12 +14,15 @@ use Rattle.request_stream.specs.Units.{closing, units}
 use Rattle.request_stream.specs.declared.types.Limits.{Limits}
 use Rattle.channel.specs.Acting.{has_counted, is_working, output_length, unit_count}
 use Rattle.channel.specs.Agreement.{Agrees, Known}
-use Rattle.channel.specs.Histories.{LeftEntry, LeftPast, RightPast, left_turn}
+use Rattle.channel.specs.Histories.{LeftEntry, LeftPast, RightPast, left_past, left_turn, right_past}
 use Rattle.channel.specs.Showing.{shown_of}
-use Rattle.channel.specs.State.{State}
+use Rattle.channel.specs.State.{State, state_of}
 pub use Rattle.channel.specs.Owed.{loses_units}
 use Rattle.channel.specs.Views.{View}
 use Rattle.channel.specs.declared.near.Near.{Near}
+use Rattle.channel.specs.declared.shared.Shared.{Shared}
+use Rattle.channel.specs.declared.sides.Acts.{Acts}
+use Rattle.outside.specs.declared.told.Told.{Told}
 use Rattle.channel.specs.declared.types.Window.{Window}
 
 -- how links are seen
@@ -147,6 +150,11 @@ module _ {L P A R S : Type 0} (links : Linked L P) where
     key = links.key near.link;
     shown = shown_of near.stream near.ended near.touched state l r left;
   }
+
+  -- the same, by what is told of what both sides did
+  abbrev pub view_by : Near L A S R → Shared A R S → Told (Acts S) → ℕ → View
+  view_by near state acts left = view_of near (state_of state) (left_past acts.value.left)
+      (right_past acts.value.right) left
 
   -- This holds of what is seen before and after, whatever both sides did before.
   abbrev pub Sees : Near L A S R → Near L A S R → State A R S → State A R S → LeftEntry S →

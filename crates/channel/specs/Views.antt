@@ -196,6 +196,19 @@ IsOver acted.Did is = is ≡ None
 IsOver acted.Held is = ⊥
 IsOver acted.Nothing is = is ≡ None
 
+-- What a recv, a send and an idle check have in common.
+pub record Calls (tells : Bool) (now : ℕ) (act : Acted) (old new : View) : Type 0 where
+  pub faults : old.faults ≤ new.faults
+  -- a link that failed goes before every other end
+  pub link_first : (new.faults ≡ old.faults) ⊎ (act ≡ acted.Over over.LinkFault)
+  pub over : IsOver act (over_of new.shown)
+  pub stays_dead : IsSome old.shown.dead → StaysDead old new
+  pub moves : Moves old.shown new.shown
+  pub goes : IsTrue tells → LinkGoes old new
+  pub stamps : IsTrue tells → Stamps now old.link new.link
+  pub stays : UnlessOver act (StaysOpen old new)
+  pub touches : (new.shown.touched ≡ old.shown.touched) ⊎ (new.shown.touched ≡ now)
+
 -- no step was made: what is begun, answered and left is as before
 pub record MakesNoStep (old new : Shown) : Type 0 where
   pub begun : new.begun ≡ old.begun

@@ -1,19 +1,17 @@
 //! One connection, as its server sees it.
-ghost use Rattle.std.specs.Prelude.{◌≡◌, ◌≤◌, ◌<◌, ◌⊎◌, false, None, Some, IsTrue, IsSome, IfOk};
+ghost use Rattle.std.specs.Prelude.{◌≡◌, ◌≤◌, ◌<◌, false, None, Some, IsTrue, IsSome, IfOk};
 ghost use Rattle.std.specs.Prelude.{IfErr, length};
 ghost use Rattle.outside.specs.Link.{opened};
 ghost use Rattle.outside.specs.Net.{asked_of};
 ghost use Rattle.proxy_trust.specs.Rules.{IsSound};
 ghost use Rattle.request_stream.specs.Reading.{ArePositive};
 ghost use Rattle.outside.specs.declared.types.End.{End as AnEnd};
-ghost use Rattle.outside.specs.declared.types.End.TheVariants as over;
-ghost use Rattle.channel.specs.declared.types.Acted.TheVariants as acted;
 ghost use Rattle.channel.specs.Output.{IsPrefix};
 ghost use Rattle.channel.specs.Owed.{PutsAsked, owed_by};
 ghost use Rattle.channel.specs.Sides.{IsUsable};
-ghost use Rattle.channel.specs.Views.{Advances, CheckCause, Checks, DrainCause, Drains, EndsBy};
-ghost use Rattle.channel.specs.Views.{IsOver, LinkGoes, Moves, ReadCause, Reads, Stamps, StaysDead};
-ghost use Rattle.channel.specs.Views.{StaysOpen, Stirs, UnlessOver, fresh, is_due, over_of};
+ghost use Rattle.channel.specs.Views.{Advances, Calls, CheckCause, Checks, DrainCause, Drains};
+ghost use Rattle.channel.specs.Views.{Moves, ReadCause, Reads, Stirs, UnlessOver, fresh, is_due};
+ghost use Rattle.channel.specs.Views.{EndsBy, over_of};
 ghost use Rattle.channel.specs.Views.{telling, view, want_of};
 
 use crate::near::Near;
@@ -38,9 +36,7 @@ pub struct Lane<'a, L: Link, A: App<S>, S: Spill> {
 }
 
 impl<'a, L: Link, A: App<S>, S: Spill> Model for Lane<'a, L, A, S> {
-    ghost use Rattle.channel.specs.Histories.{left_past, right_past};
-    ghost use Rattle.channel.specs.Showing.{shown_of};
-    ghost use Rattle.channel.specs.State.{state_of};
+    ghost use Rattle.channel.specs.Showing.{shown_by};
     ghost use Rattle.channel.specs.Views.{Seen};
     ghost use Rattle.channel.specs.Writing.{steps_left};
 
@@ -50,11 +46,9 @@ impl<'a, L: Link, A: App<S>, S: Spill> Model for Lane<'a, L, A, S> {
       link = l.channel.value.near.link;
       peer = l.channel.value.near.peer;
       fixed = l.channel.value.state.fixed.value;
-      shown = shown_of l.channel.value.near.stream l.channel.value.near.ended
-          l.channel.value.near.touched
-          (state_of l.channel.value.state) (left_past l.channel.value.acts.value.left)
-          (right_past l.channel.value.acts.value.right) (steps_left A.Run.left
-          l.channel.value.writing);
+      shown = shown_by l.channel.value.near.stream l.channel.value.near.ended
+          l.channel.value.near.touched l.channel.value.state l.channel.value.acts
+          (steps_left A.Run.left l.channel.value.writing);
     } };
 }
 
@@ -96,21 +90,8 @@ impl<'a, L: Link + Drop, A: App<S>, S: Spill + Send + Drop> Lane<'a, L, A, S> {
         ensures fixed { self.new.fixed ≡ self.old.fixed }
         ensures plan { L.plan self.new.link ≡ L.plan self.old.link }
         ensures key { L.key self.new.link ≡ L.key self.old.link }
-        ensures faults { L.faults self.old.link ≤ L.faults self.new.link }
-        ensures over { IsOver result (over_of self.new.shown) }
-        ensures stays_dead { IsSome self.old.shown.dead → StaysDead (view L.state L.faults L.key
-            self.old) (view L.state L.faults L.key self.new) }
-        ensures moves { Moves self.old.shown self.new.shown }
-        ensures goes { IsTrue L.tells → LinkGoes (view L.state L.faults L.key self.old) (view
-            L.state L.faults L.key self.new) }
-        ensures stamps { IsTrue L.tells →
-            Stamps now (L.state self.old.link) (L.state self.new.link) }
-        ensures link_first { (L.faults self.new.link ≡ L.faults self.old.link) ⊎ (result ≡
-            acted.Over over.LinkFault) }
-        ensures touches { (self.new.shown.touched ≡ self.old.shown.touched) ⊎
-            (self.new.shown.touched ≡ now) }
-        ensures stays { UnlessOver result (StaysOpen (view L.state L.faults L.key self.old) (view
-            L.state L.faults L.key self.new)) }
+        ensures calls { Calls L.tells now result (view L.state L.faults L.key self.old)
+            (view L.state L.faults L.key self.new) }
         ensures reads { UnlessOver result (Reads L.tells self.old.fixed.window (view L.state
             L.faults L.key self.old) (view L.state L.faults L.key self.new)) }
         ensures cause { self.old.shown.dead ≡ None → ReadCause L.tells self.old.fixed.window result
@@ -123,30 +104,17 @@ impl<'a, L: Link + Drop, A: App<S>, S: Spill + Send + Drop> Lane<'a, L, A, S> {
     /// Makes one send of the first bytes of the output, where there are any.
     pub fn drain(&mut self, now: u64, room: &mut [u8]) -> Acted
         requires room { length room.old ≡ 65536 }
+        ensures unput { self.new.shown.put ≡ self.old.shown.put }
         ensures peer { self.new.peer ≡ self.old.peer }
         ensures fixed { self.new.fixed ≡ self.old.fixed }
         ensures plan { L.plan self.new.link ≡ L.plan self.old.link }
         ensures key { L.key self.new.link ≡ L.key self.old.link }
-        ensures faults { L.faults self.old.link ≤ L.faults self.new.link }
-        ensures over { IsOver result (over_of self.new.shown) }
-        ensures stays_dead { IsSome self.old.shown.dead → StaysDead (view L.state L.faults L.key
-            self.old) (view L.state L.faults L.key self.new) }
-        ensures moves { Moves self.old.shown self.new.shown }
-        ensures goes { IsTrue L.tells → LinkGoes (view L.state L.faults L.key self.old) (view
-            L.state L.faults L.key self.new) }
-        ensures stamps { IsTrue L.tells →
-            Stamps now (L.state self.old.link) (L.state self.new.link) }
-        ensures link_first { (L.faults self.new.link ≡ L.faults self.old.link) ⊎ (result ≡
-            acted.Over over.LinkFault) }
-        ensures touches { (self.new.shown.touched ≡ self.old.shown.touched) ⊎
-            (self.new.shown.touched ≡ now) }
-        ensures stays { UnlessOver result (StaysOpen (view L.state L.faults L.key self.old) (view
-            L.state L.faults L.key self.new)) }
+        ensures calls { Calls L.tells now result (view L.state L.faults L.key self.old)
+            (view L.state L.faults L.key self.new) }
         ensures drains { UnlessOver result (Drains L.tells self.old.fixed.window (view L.state
             L.faults L.key self.old) (view L.state L.faults L.key self.new)) }
         ensures cause { self.old.shown.dead ≡ None → DrainCause L.tells result (view L.state
             L.faults L.key self.old) (view L.state L.faults L.key self.new) }
-        ensures unput { self.new.shown.put ≡ self.old.shown.put }
     {
         self.channel.drain(now, room)
     }
@@ -158,21 +126,8 @@ impl<'a, L: Link + Drop, A: App<S>, S: Spill + Send + Drop> Lane<'a, L, A, S> {
         ensures fixed { self.new.fixed ≡ self.old.fixed }
         ensures plan { L.plan self.new.link ≡ L.plan self.old.link }
         ensures key { L.key self.new.link ≡ L.key self.old.link }
-        ensures faults { L.faults self.old.link ≤ L.faults self.new.link }
-        ensures over { IsOver result (over_of self.new.shown) }
-        ensures stays_dead { IsSome self.old.shown.dead → StaysDead (view L.state L.faults L.key
-            self.old) (view L.state L.faults L.key self.new) }
-        ensures moves { Moves self.old.shown self.new.shown }
-        ensures goes { IsTrue L.tells → LinkGoes (view L.state L.faults L.key self.old) (view
-            L.state L.faults L.key self.new) }
-        ensures stamps { IsTrue L.tells →
-            Stamps now (L.state self.old.link) (L.state self.new.link) }
-        ensures link_first { (L.faults self.new.link ≡ L.faults self.old.link) ⊎ (result ≡
-            acted.Over over.LinkFault) }
-        ensures touches { (self.new.shown.touched ≡ self.old.shown.touched) ⊎
-            (self.new.shown.touched ≡ now) }
-        ensures stays { UnlessOver result (StaysOpen (view L.state L.faults L.key self.old) (view
-            L.state L.faults L.key self.new)) }
+        ensures calls { Calls L.tells now result (view L.state L.faults L.key self.old)
+            (view L.state L.faults L.key self.new) }
         ensures checks { UnlessOver result (Checks L.tells now self.old.fixed.window (view L.state
             L.faults L.key self.old) (view L.state L.faults L.key self.new)) }
         ensures cause { self.old.shown.dead ≡ None → CheckCause L.tells now self.old.fixed.window

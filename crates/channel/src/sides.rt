@@ -10,9 +10,9 @@ ghost use Rattle.channel.specs.Happening.{CheckCalls, DrainCalls, ReadCalls};
 ghost use Rattle.channel.specs.Histories.{left_past, right_past};
 ghost use Rattle.channel.specs.Output.{IsPrefix};
 ghost use Rattle.channel.specs.Owed.{PutsAsked, owed_by};
-ghost use Rattle.channel.specs.Showing.{shown_of};
+ghost use Rattle.channel.specs.Showing.{shown_by};
 ghost use Rattle.channel.specs.Sides.{Answers, IsSameNear, IsUsable, KeepsSide, linked, side_of};
-ghost use Rattle.channel.specs.Sides.{view_of};
+ghost use Rattle.channel.specs.Sides.{view_by};
 ghost use Rattle.channel.specs.State.{state_of};
 ghost use Rattle.channel.specs.Views.{Advances, EndsBy, Moves, Stirs, is_due, telling, want_of};
 ghost use Rattle.channel.specs.Writing.{KeepsWriting, is_scripted, is_settled, steps_left};
@@ -103,16 +103,12 @@ pub(crate) struct Channel<'a, L: Link, A: App<S>, S: Spill> {
 impl<'a, L: Link + Drop, A: App<S>, S: Spill + Send + Drop> Channel<'a, L, A, S> {
     pub(crate) fn want(&self) -> Want
         ensures asks { asked_of result ≡ want_of self.now.state.fixed.value.window
-            (view_of (linked L.tells L.state L.faults L.key L.plan) self.now.near (state_of
-            self.now.state)
-            (left_past self.now.acts.value.left) (right_past self.now.acts.value.right) (steps_left
-            A.Run.left self.now.writing)) }
+            (view_by (linked L.tells L.state L.faults L.key L.plan) self.now.near
+            self.now.state self.now.acts (steps_left A.Run.left self.now.writing)) }
         ensures answers { (result.may_read ≡ false) × (result.may_write ≡ false) }
         ensures stirs { Stirs self.now.state.fixed.value.window
-            (shown_of self.now.near.stream self.now.near.ended self.now.near.touched (state_of
-            self.now.state)
-            (left_past self.now.acts.value.left) (right_past self.now.acts.value.right) (steps_left
-            A.Run.left self.now.writing)) }
+            (shown_by self.now.near.stream self.now.near.ended self.now.near.touched
+            self.now.state self.now.acts (steps_left A.Run.left self.now.writing)) }
         ensures told { IsTrue L.tells →
             (self.now.near.touched ≡ (L.state self.now.near.link).touched) × (self.now.near.ended ≡
             (L.state self.now.near.link).ended) }
@@ -132,10 +128,8 @@ impl<'a, L: Link + Drop, A: App<S>, S: Spill + Send + Drop> Channel<'a, L, A, S>
 
     pub(crate) fn is_due(&self) -> bool
         ensures { result ≡ is_due self.now.state.fixed.value.window
-            (shown_of self.now.near.stream self.now.near.ended self.now.near.touched (state_of
-            self.now.state)
-            (left_past self.now.acts.value.left) (right_past self.now.acts.value.right) (steps_left
-            A.Run.left self.now.writing)) }
+            (shown_by self.now.near.stream self.now.near.ended self.now.near.touched
+            self.now.state self.now.acts (steps_left A.Run.left self.now.writing)) }
     {
         self.state.dead.is_none()
             && self.state.is_working()
@@ -159,14 +153,10 @@ impl<'a, L: Link + Drop, A: App<S>, S: Spill + Send + Drop> Channel<'a, L, A, S>
             self.new.near }
         ensures fixed { self.new.state.fixed ≡ self.old.state.fixed }
         ensures calls { ReadCalls L.tells now self.old.state.fixed.value.window result
-            (view_of (linked L.tells L.state L.faults L.key L.plan) self.old.near (state_of
-            self.old.state)
-            (left_past self.old.acts.value.left) (right_past self.old.acts.value.right) (steps_left
-            A.Run.left self.old.writing))
-            (view_of (linked L.tells L.state L.faults L.key L.plan) self.new.near (state_of
-            self.new.state)
-            (left_past self.new.acts.value.left) (right_past self.new.acts.value.right) (steps_left
-            A.Run.left self.new.writing)) }
+            (view_by (linked L.tells L.state L.faults L.key L.plan) self.old.near
+            self.old.state self.old.acts (steps_left A.Run.left self.old.writing))
+            (view_by (linked L.tells L.state L.faults L.key L.plan) self.new.near
+            self.new.state self.new.acts (steps_left A.Run.left self.new.writing)) }
         ensures spills { P.faults spills.new ≡ P.faults spills.old }
     {
         let (acted, entry) = self
@@ -183,14 +173,10 @@ impl<'a, L: Link + Drop, A: App<S>, S: Spill + Send + Drop> Channel<'a, L, A, S>
             self.new.near }
         ensures fixed { self.new.state.fixed ≡ self.old.state.fixed }
         ensures calls { DrainCalls L.tells now self.old.state.fixed.value.window result
-            (view_of (linked L.tells L.state L.faults L.key L.plan) self.old.near (state_of
-            self.old.state)
-            (left_past self.old.acts.value.left) (right_past self.old.acts.value.right) (steps_left
-            A.Run.left self.old.writing))
-            (view_of (linked L.tells L.state L.faults L.key L.plan) self.new.near (state_of
-            self.new.state)
-            (left_past self.new.acts.value.left) (right_past self.new.acts.value.right) (steps_left
-            A.Run.left self.new.writing)) }
+            (view_by (linked L.tells L.state L.faults L.key L.plan) self.old.near
+            self.old.state self.old.acts (steps_left A.Run.left self.old.writing))
+            (view_by (linked L.tells L.state L.faults L.key L.plan) self.new.near
+            self.new.state self.new.acts (steps_left A.Run.left self.new.writing)) }
     {
         let (acted, entry) = self.near.drain(now, room, &mut self.state);
         let about = (Snapshot::of(&self.acts), Snapshot::of(&entry));
@@ -204,14 +190,10 @@ impl<'a, L: Link + Drop, A: App<S>, S: Spill + Send + Drop> Channel<'a, L, A, S>
             self.new.near }
         ensures fixed { self.new.state.fixed ≡ self.old.state.fixed }
         ensures calls { CheckCalls L.tells now self.old.state.fixed.value.window result
-            (view_of (linked L.tells L.state L.faults L.key L.plan) self.old.near (state_of
-            self.old.state)
-            (left_past self.old.acts.value.left) (right_past self.old.acts.value.right) (steps_left
-            A.Run.left self.old.writing))
-            (view_of (linked L.tells L.state L.faults L.key L.plan) self.new.near (state_of
-            self.new.state)
-            (left_past self.new.acts.value.left) (right_past self.new.acts.value.right) (steps_left
-            A.Run.left self.new.writing)) }
+            (view_by (linked L.tells L.state L.faults L.key L.plan) self.old.near
+            self.old.state self.old.acts (steps_left A.Run.left self.old.writing))
+            (view_by (linked L.tells L.state L.faults L.key L.plan) self.new.near
+            self.new.state self.new.acts (steps_left A.Run.left self.new.writing)) }
     {
         let (acted, entry) = self.near.check_idle(now, room, &mut self.state);
         let about = (Snapshot::of(&self.acts), Snapshot::of(&entry));
@@ -226,23 +208,15 @@ impl<'a, L: Link + Drop, A: App<S>, S: Spill + Send + Drop> Channel<'a, L, A, S>
         ensures longer { output_length (state_of self.old.state) ≤ output_length (state_of
             self.new.state) }
         ensures moves { Moves
-            (shown_of self.old.near.stream self.old.near.ended self.old.near.touched (state_of
-            self.old.state)
-            (left_past self.old.acts.value.left) (right_past self.old.acts.value.right) (steps_left
-            A.Run.left self.old.writing))
-            (shown_of self.new.near.stream self.new.near.ended self.new.near.touched (state_of
-            self.new.state)
-            (left_past self.new.acts.value.left) (right_past self.new.acts.value.right) (steps_left
-            A.Run.left self.new.writing)) }
+            (shown_by self.old.near.stream self.old.near.ended self.old.near.touched
+            self.old.state self.old.acts (steps_left A.Run.left self.old.writing))
+            (shown_by self.new.near.stream self.new.near.ended self.new.near.touched
+            self.new.state self.new.acts (steps_left A.Run.left self.new.writing)) }
         ensures advances { Advances self.old.state.fixed.value.window result
-            (shown_of self.old.near.stream self.old.near.ended self.old.near.touched (state_of
-            self.old.state)
-            (left_past self.old.acts.value.left) (right_past self.old.acts.value.right) (steps_left
-            A.Run.left self.old.writing))
-            (shown_of self.new.near.stream self.new.near.ended self.new.near.touched (state_of
-            self.new.state)
-            (left_past self.new.acts.value.left) (right_past self.new.acts.value.right) (steps_left
-            A.Run.left self.new.writing)) }
+            (shown_by self.old.near.stream self.old.near.ended self.old.near.touched
+            self.old.state self.old.acts (steps_left A.Run.left self.old.writing))
+            (shown_by self.new.near.stream self.new.near.ended self.new.near.touched
+            self.new.state self.new.acts (steps_left A.Run.left self.new.writing)) }
     {
         if self.state.dead.is_some() {
             return Progress::Dead;

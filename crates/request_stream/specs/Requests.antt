@@ -1,5 +1,5 @@
 -- A request as contracts see it, and how a proof tells two of them apart.
-use Rattle.std.specs.Prelude.{◌≡◌, ℕ, Bool, true, false, List, Option, Some, None, refl}
+use Rattle.std.specs.Prelude.{◌≡◌, ℕ, Bool, true, false, List, Option, Some, None, length, refl}
 use Rattle.std.specs.Coded.{Coded, code_by, coded×, coded_ℕ, coded_bool, coded_list, coded_option}
 use Rattle.head_grammar.specs.Heads.{Head}
 use Rattle.head_grammar.specs.declared.types.Field.{Field}
@@ -16,6 +16,10 @@ pub record ARequest (S : Type 0) : Type 0 where
   pub body : Buffered S
   pub moment : ℕ
 
+-- the body has so many bytes
+abbrev pub HasLength : {S : Type 0} → ℕ → Buffered S → Type 0
+HasLength n body = n ≡ length body.bytes
+
 abbrev is_new : Version → Bool
 is_new Old = false
 is_new New = true
@@ -24,7 +28,7 @@ abbrev version_by : Bool → Version
 version_by false = Old
 version_by true = New
 
-version_is : (v : Version) → version_by (is_new v) ≡ v
+pub version_is : (v : Version) → version_by (is_new v) ≡ v
 version_is Old = refl
 version_is New = refl
 
@@ -38,7 +42,7 @@ framing_by None = Empty
 framing_by (Some (Some n)) = Fixed n
 framing_by (Some None) = Chunked
 
-framing_is : (f : Framing) → framing_by (length_in f) ≡ f
+pub framing_is : (f : Framing) → framing_by (length_in f) ≡ f
 framing_is Empty = refl
 framing_is (Fixed n) = refl
 framing_is Chunked = refl
