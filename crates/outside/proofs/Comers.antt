@@ -1,19 +1,30 @@
 -- The comers of a net in memory: who is due, and what stays where one is given.
 use Rattle.std.proofs.Common.{◌≡◌, ◌<◌, ◌≤◌, ◌+◌, ◌++◌, ◌∷◌, [], ℕ, suc, inl, inr, List, length, map, take, drop, None, false, get_or, nat_lt, arith, refl, sym, ◌∙◌, ap}
 use Rattle.std.proofs.Math.Logic.{∥∥₁_map}
-use Rattle.std.specs.List.{All, remove, position_or_len, take-map, drop-map}
+use Rattle.std.specs.List.{All, Contains, remove, position_or_len, take-map, drop-map}
 use Rattle.std.specs.Prelude.{cond, Some}
 use Rattle.std.proofs.lemmas.Bool.{cases_lt}
 use Rattle.std.proofs.lemmas.List.{map-append, length-map, get_or-map}
 use Rattle.std.proofs.lemmas.List.Edits.{get_or-remove_below, get_or-remove_above, length-remove}
+use Rattle.std.proofs.lemmas.List.Elements.{All-contains_itself}
 use Rattle.std.proofs.lemmas.List.Quantifiers.{position-Some}
-use Rattle.std.proofs.lemmas.List.Sorted.{IsPermutation-more}
+use Rattle.std.proofs.lemmas.List.Sorted.{IsPermutation-more, IsPermutation-refl}
 use Rattle.std.proofs.lemmas.List.Sums.{fails_before_first}
 use Rattle.outside.specs.MemNet.{AreComers, first_due, seat_of}
 use Rattle.outside.specs.declared.plans.Comer.{Comer}
 use Rattle.outside.specs.declared.plans.LinkPlan.{LinkPlan}
 use Rattle.outside.specs.declared.plans.NetPlan.{NetPlan}
 use Rattle.outside.specs.declared.types.Peer.{Peer}
+
+-- at first all comers of the plan wait, and nobody else
+pub all_come : (plan : NetPlan) (waiting : List Comer) → waiting ≡ plan.comers →
+    All (Contains plan.comers) waiting
+all_come plan waiting all = rw all (All-contains_itself plan.comers)
+
+pub nobody_given : (plan : NetPlan) (given : List (Peer × LinkPlan)) (waiting : List Comer) →
+    given ≡ [] → waiting ≡ plan.comers → AreComers plan given waiting
+nobody_given plan given waiting nobody all =
+    rw (nobody, all) (∣ IsPermutation-refl (map seat_of plan.comers) ∣₁)
 
 past_end : (m n : ℕ) → cond (nat_lt m n) (Some m) None ≡ None → n ≤ m
 past_end m n none = grind (arith, none)
@@ -36,16 +47,15 @@ due_within waiting polls place comer first =
     let due = position-Some (λ (c : Comer). nat_lt c.turn polls) waiting place comer first in
     due.0
 
--- those who come later still do where one of the list is given
-pub later_left : (polls place : ℕ) (waiting : List Comer) → place < length waiting →
-    All (λ comer. polls ≤ comer.turn) waiting →
-    All (λ comer. polls ≤ comer.turn) (remove waiting place)
-later_left polls place waiting within later k d inside =
+-- what holds of all who wait still does where one of them is given
+pub all_left : (P : Comer → Type 0) (place : ℕ) (waiting : List Comer) → place < length waiting →
+    All P waiting → All P (remove waiting place)
+all_left P place waiting within holds k d inside =
     elim (cases_lt k place) [
       | inl before ↦ rw (get_or-remove_below waiting place d k before within)
-          (later k d (omega (arith, before, within)))
+          (holds k d (omega (arith, before, within)))
       | inr behind ↦ rw (get_or-remove_above waiting place d k behind within)
-          (later (k + 1) d (omega (arith, inside, length-remove waiting place within)))
+          (holds (k + 1) d (omega (arith, inside, length-remove waiting place within)))
     ]
 
 map-remove : (waiting : List Comer) (place : ℕ) →

@@ -1,5 +1,5 @@
 -- A net in memory.
-use Rattle.std.specs.Prelude.{◌≡◌, ◌≤◌, ◌<◌, ◌+◌, ◌++◌, ◌&&◌, ◌==◌, ℕ, Bool, IsTrue, false, is_none, is_some, List, [], length, map, position, remove, All, IsPermutation, Option, None, Some, slice_get, nat_lt, nat_le, Result, Ok, Err}
+use Rattle.std.specs.Prelude.{◌≡◌, ◌≤◌, ◌<◌, ◌+◌, ◌++◌, ◌&&◌, ◌==◌, ℕ, Bool, IsTrue, false, is_none, is_some, List, [], length, map, position, remove, All, Contains, IsPermutation, Option, None, Some, slice_get, nat_lt, nat_le, Result, Ok, Err}
 use Rattle.std.specs.Option.{ForSome, IsSomeAnd}
 use Rattle.outside.specs.Causes.{raised}
 use Rattle.outside.specs.Link.{opened}
@@ -95,10 +95,13 @@ pub record PolledByPlan (plan : NetPlan) (found : Found) (poll : Poll LinkPlan) 
   pub turn : TurnByPlan plan found poll.live poll.accepting poll.turn
   pub ready : All IsReady poll.wants
   pub comers : AreComers plan poll.given found.waiting
+  pub who : All (Contains plan.comers) found.waiting
 
 -- what a net in memory keeps at each moment
 pub record KeepsToNetPlan (net : MemNetState) : Type 0 where
   pub comers : AreComers net.plan net.state.given net.waiting
+  -- whoever waits is a comer of the plan
+  pub who : All (Contains net.plan.comers) net.waiting
   -- whoever still waits after an accept that gave nobody comes at a later turn
   pub cleared : All (λ comer. net.cleared ≤ comer.turn) net.waiting
   pub first : ForSome net.state.first (λ moment. IsTrue (is_listed net.plan.moments moment))

@@ -42,6 +42,11 @@ pub record NetState (L P : Type 0) : Type 0 where
   pub asked : ℕ
   pub put_off : ℕ
 
+-- a want may be met only where it asks
+pub record MayOnlyAsAsked (want : Want) : Type 0 where
+  pub read : IsTrue want.may_read → IsTrue want.read
+  pub write : IsTrue want.may_write → IsTrue want.write
+
 -- what a want asks
 abbrev pub asked_of : Want → ℕ × Bool × Bool
 asked_of w = (w.key, w.read, w.write)
@@ -102,6 +107,12 @@ abbrev pub TakesKey : {L : Type 0} → (L → ℕ) → Result (Option (L × Peer
 TakesKey key (Ok (Some (link, peer))) old new = (¬ (old (key link))) × new (key link)
 TakesKey key (Ok None) old new = Unit {0}
 TakesKey key (Err _) old new = Unit {0}
+
+-- nobody is waiting behind an accept that gave nobody
+abbrev pub FindsNobody : {T : Type 0} → Result (Option T) NetFault → Type 0 → Type 0
+FindsNobody (Ok (Some _)) nobody = Unit {0}
+FindsNobody (Ok None) nobody = nobody
+FindsNobody (Err _) nobody = Unit {0}
 
 -- the moment of the last turn behind a poll
 abbrev pub moment_after : Result Turn Failed → ℕ → ℕ

@@ -42,7 +42,7 @@ pub struct MemNet {
 
 impl Model for MemNet {
     ghost use Rattle.std.specs.Prelude.{◌≡◌, ◌≤◌, ◌<◌, ◌+◌, ◌^◌, length, vec_capacity, is_none};
-    ghost use Rattle.std.specs.Prelude.{unwrap_or, IsTrue, All};
+    ghost use Rattle.std.specs.Prelude.{unwrap_or, IsTrue, All, Contains};
     ghost use Rattle.std.specs.Option.{ForSome, IsSomeAnd};
     ghost use Rattle.outside.specs.Memory.{is_listed};
     ghost use Rattle.outside.specs.MemNet.{MemNetState, AreComers, PolledByPlan};
@@ -92,6 +92,7 @@ impl Model for MemNet {
       past : last_moment (last_of n.last.value) ≤ moment_at n.moments n.polls;
       begun : unwrap_or n.first.value 0 ≤ moment_at n.moments n.polls;
       comers : AreComers n.plan.value n.given.value n.waiting.items;
+      who : All (Contains n.plan.value.comers) n.waiting.items;
       cleared : All (λ comer. n.cleared.value ≤ comer.turn) n.waiting.items;
       first : ForSome n.first.value (λ moment.
           IsTrue (is_listed n.plan.value.moments moment));
@@ -147,11 +148,19 @@ impl MemNet {
         })
     }
 
+    // What the invariant says of its value.
+    fn keeps_to_plan(&self)
+        ensures { KeepsToNetPlan self.now }
+    {
+        let _ = &self.plan;
+    }
+
     /// The links that were retired, in that order.
     pub fn closed(&self) -> &[Retired<MemLink>]
         ensures value { result.now ≡ self.now.state.closed }
         ensures kept { KeepsToNetPlan self.now }
     {
+        self.keeps_to_plan();
         self.closed.as_slice()
     }
 
@@ -195,6 +204,7 @@ impl MemNet {
         ensures value { result ≡ self.now.state.put_off }
         ensures kept { KeepsToNetPlan self.now }
     {
+        self.keeps_to_plan();
         self.put_off
     }
 
@@ -203,6 +213,7 @@ impl MemNet {
         ensures value { result ≡ self.now.bind_faults }
         ensures kept { KeepsToNetPlan self.now }
     {
+        self.keeps_to_plan();
         self.bind_faults
     }
 
@@ -211,6 +222,7 @@ impl MemNet {
         ensures value { result ≡ self.now.poll_faults }
         ensures kept { KeepsToNetPlan self.now }
     {
+        self.keeps_to_plan();
         self.poll_faults
     }
 }

@@ -1,10 +1,10 @@
 //! The net: where connections come from and go to.
-ghost use Rattle.std.specs.Prelude.{◌≡◌, ◌≢◌, ◌≤◌, ℕ, ◌-◌, ◌++◌, ◌∷◌, [], Bool, IsTrue, map, IfOk};
-ghost use Rattle.std.specs.Prelude.{OnErr, OnOk, IfSome, Some};
+ghost use Rattle.std.specs.Prelude.{◌≡◌, ◌≢◌, ◌≤◌, ℕ, ◌-◌, ◌++◌, ◌∷◌, [], Bool, IsTrue, All, map};
+ghost use Rattle.std.specs.Prelude.{IfOk, OnErr, OnOk, IfSome, Some};
 ghost use Rattle.outside.specs.Causes.{HasCause};
 ghost use Rattle.outside.specs.Link.{opened};
-ghost use Rattle.outside.specs.Net.{NetState, Polls, Accepts, AcceptCause, TakesKey, asked_of};
-ghost use Rattle.outside.specs.Net.{moment_after};
+ghost use Rattle.outside.specs.Net.{NetState, Polls, Accepts, AcceptCause, FindsNobody};
+ghost use Rattle.outside.specs.Net.{MayOnlyAsAsked, TakesKey, asked_of, moment_after};
 
 use crate::{End, Failed, Link, Listen, NetFault, Peer, Turn, Want};
 use std::alloc::Global;
@@ -32,6 +32,9 @@ pub trait Net {
     /// The numbers that no new link gets. Those of the open links are among them.
     ghost taken: { Self → ℕ → Type 0 };
 
+    /// Whether nobody is waiting to be accepted, as the last accept found.
+    ghost nobody: { Self → Type 0 };
+
     /// How often bind has failed. It starts at 0, and may stand still at the greatest u64.
     ghost bind_faults: { Self → ℕ };
 
@@ -58,6 +61,7 @@ pub trait Net {
         ensures cause { HasCause (poll_faults self.old) (poll_faults self.new) result }
         ensures others { bind_faults self.new ≡ bind_faults self.old }
         ensures wants { map asked_of wants.new.items ≡ map asked_of wants.old.items }
+        ensures asked { IfOk result (λ _. All MayOnlyAsAsked wants.new.items) }
         ensures come { IfOk result (λ turn. IsTrue turn.come → IsTrue accepting) }
         ensures later { IfOk result (λ turn. moment self.old ≤ turn.now) }
         ensures moment { moment self.new ≡ moment_after result (moment self.old) }
@@ -78,6 +82,7 @@ pub trait Net {
             IfOk result (λ given. IfSome given (λ new. Self.Link.state new.0 ≡ opened now)) }
         ensures plan { plan self.new ≡ plan self.old }
         ensures moment { moment self.new ≡ moment self.old }
+        ensures nobody { FindsNobody result (nobody self.new) }
         ensures new_key { TakesKey Self.Link.key result (taken self.old) (taken self.new) }
         ensures keys { (key : ℕ) → taken self.old key → taken self.new key };
 
@@ -90,6 +95,7 @@ pub trait Net {
           closed = (state self.old).closed ++ record { peer = peer; link = link; end = end } ∷ [];
           live = (state self.old).live - 1;
         } }
+        ensures nobody { nobody self.old → nobody self.new }
         ensures plan { plan self.new ≡ plan self.old }
         ensures moment { moment self.new ≡ moment self.old }
         ensures keys { (key : ℕ) → key ≢ Self.Link.key link →

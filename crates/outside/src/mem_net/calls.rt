@@ -1,7 +1,7 @@
 //! The calls of a net in memory.
 ghost use Rattle.std.specs.Prelude.{◌≡◌, ◌<◌, ◌≤◌, ◌-◌, ◌++◌, ◌∷◌, [], ◌↔◌, ◌&&◌, ℕ, true, is_some};
-ghost use Rattle.std.specs.Prelude.{IsTrue, IsErr, IsErrOf, IfOk, OnOk, OnErr, IfSome, Some, All};
-ghost use Rattle.std.specs.Prelude.{length, map};
+ghost use Rattle.std.specs.Prelude.{IsTrue, IsErr, IsErrOf, IfOk, OnOk, OnErr, IfSome, None, Some};
+ghost use Rattle.std.specs.Prelude.{All, length, map};
 ghost use Rattle.outside.specs.Causes.{HasCause, faults_after, raised};
 ghost use Rattle.outside.specs.Link.{opened};
 ghost use Rattle.outside.specs.Memory.{is_listed};
@@ -88,6 +88,8 @@ impl Net for MemNet {
     ghost moment = { λ n. last_moment n.state.last };
 
     ghost taken = { λ n key. key < length n.state.given };
+
+    ghost nobody = { λ n. first_due n.waiting n.state.polls ≡ None };
 
     ghost bind_faults = { λ n. n.bind_faults };
 

@@ -1,9 +1,9 @@
-use Rattle.std.proofs.Common.{rules, arith, ◌≡◌, ◌<◌, ◌++◌, ◌∷◌, [], length, length-append, ◌+◌, refl, sym, ap}
-use Rattle.std.specs.List.{remove}
+use Rattle.std.proofs.Common.{rules, arith, ◌≡◌, ◌<◌, ◌≤◌, ◌++◌, ◌∷◌, [], length, length-append, ◌+◌, refl, sym, ap}
+use Rattle.std.specs.List.{Contains, remove}
 use Rattle.std.proofs.lemmas.List.Edits.{length-remove}
 use Rattle.std.proofs.lemmas.Option.{slice_get_read}
 use Rattle.outside.specs.MemNet.{seat_of}
-use Rattle.outside.proofs.Comers.{none_due, due_within, later_left, comers_left}
+use Rattle.outside.proofs.Comers.{none_due, due_within, all_left, comers_left}
 use Rattle.outside.proofs.mem_net.calls.MemNetNet.accept.Goals as goal
 
 pub invariant_of-self-in_default : goal.invariant_of-self-in_default
@@ -26,6 +26,7 @@ invariant_of-self-in_default c =
       past = i.past;
       begun = i.begun;
       comers = i.comers;
+      who = i.who;
       cleared = λ k d within. rw c.of.ensures (none k d within);
       first = i.first;
       last = i.last;
@@ -65,7 +66,9 @@ invariant_of-self-2 c =
       begun = i.begun;
       comers = rw (given, rest) (comers_left c.self.inside.plan.value old_given waiting at comer
           within c.in-Some-remove.ensures.value i.comers);
-      cleared = rw rest (later_left c.self.inside.cleared.value at waiting within i.cleared);
+      who = rw rest (all_left (Contains c.self.inside.plan.value.comers) at waiting within i.who);
+      cleared = rw rest (all_left (λ comer. c.self.inside.cleared.value ≤ comer.turn) at waiting
+          within i.cleared);
       first = i.first;
       last = i.last;
       polled = i.polled;

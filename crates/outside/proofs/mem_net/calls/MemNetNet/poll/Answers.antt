@@ -34,6 +34,7 @@ invariant_of-self-2 c =
       };
       ready = c.answer_all.ensures.ready;
       comers = i.comers;
+      who = i.who;
     } in
     let rises = i.rising.later c.self.inside.polls c.next_fails.new.calls
     (omega (arith, c.next_fails.ensures.counted)) in
@@ -57,6 +58,7 @@ invariant_of-self-2 c =
       begun = still_begun old_first _ c.moment_of.result _ first_told
           (rw c.moment_of.ensures.value i.begun) (rw c.moment_of.ensures.value rises);
       comers = i.comers;
+      who = i.who;
       cleared = i.cleared;
       first = first_moment moments old_first c.moment_of.result _ first_told i.first listed;
       last = of_last _ p (λ (poll : Poll LinkPlan). is_listed moments poll.turn.now ≡ true) told
