@@ -8,6 +8,7 @@
 mod bytes;
 mod fails;
 mod items;
+mod laws;
 mod link;
 mod mem_entry;
 mod mem_link;
@@ -28,6 +29,7 @@ mod types;
 
 pub use bytes::Bytes;
 pub use items::Items;
+pub use laws::{mem_link_tells, mem_net_tells, mem_sink_tells, mem_spill_tells, mem_tree_tells};
 pub use link::Link;
 pub use mem_entry::MemEntry;
 pub use mem_link::MemLink;
