@@ -48,6 +48,13 @@ unless_over P acted.Did o is p = p is
 unless_over P acted.Held o is p = absurd is
 unless_over P acted.Nothing o is p = p is
 
+-- over by the end that it met, or because all is done
+over_so : (P : End → Type 0) (dead : Option End) (done : Bool) (end : End) →
+    over_by dead done ≡ Some end → (dead ≡ Some end → P end) → P over.Done → P end
+over_so P (Some x) done end e met at_done = met e
+over_so P None true end e met at_done = let is : over.Done ≡ end = cc in subst P is at_done
+over_so P None false end e met at_done = cc
+
 -- what is as another channel has made as few steps as that one
 same_steps : (o m n : Shown) → n ≡ m → m.begun ≡ o.begun → m.answered ≡ o.answered →
     m.left ≡ o.left → MakesNoStep o n
@@ -911,21 +918,11 @@ module _ (tells : Bool) (now : ℕ) (w : Window) (what : Moved) (act : Acted) (o
       let parts = alive_mid mid new c e in
       subst (λ (v : View). ReadCause tells w (as_acted what) old v) (sym parts.1.1)
       (read_open what refl alive (sym (heard_dead alive) ∙ parts.0))
-  read_cause alive (Some end) e = by new.shown.dead (is_done new.shown) end e
-      (sym (heard_dead alive) ∙ sym (ap (λ (v : View). v.shown.dead) c.same))
-    where
-      by : (d : Option End) (done : Bool) (end : End) → over_by d done ≡ Some end →
-          end_of what ≡ d → ReadCause tells w (acted.Over end) old new
-      by (Some x) done end e f = read_over what end (f
-          ∙ e) h.asked h.hears.faults h.hears.shown h.hears.link c
-      by None true over.Done e f = tt
-      by None true over.LinkFault e f = cc
-      by None true over.SpillFault e f = cc
-      by None true over.AppFault e f = cc
-      by None true over.NoMemory e f = cc
-      by None true (over.TimedOut t u) e f = cc
-      by None true over.ShutDown e f = cc
-      by None false end e f = cc
+  read_cause alive (Some end) e = over_so (λ end. ReadCause tells w (acted.Over end) old new)
+      new.shown.dead (is_done new.shown) end e
+      (λ is. read_over what end (sym (heard_dead alive)
+      ∙ (sym (ap (λ (v : View). v.shown.dead) c.same) ∙ is)) h.asked h.hears.faults h.hears.shown
+      h.hears.link c) tt
 
   pub read_calls : ReadCalls tells now w act old new
   read_calls = record {
@@ -1123,20 +1120,11 @@ module _ (tells : Bool) (now : ℕ) (w : Window) (what : Moved) (old mid : View)
         let parts = alive_mid mid new c e in
         subst (λ (v : View). DrainCause tells (as_acted what) old v) (sym parts.1.1)
         (drain_open what refl alive (sym (said_dead alive) ∙ parts.0))
-    drain_cause alive (Some end) e = by new.shown.dead (is_done new.shown) end e
-        (sym (said_dead alive) ∙ sym (ap (λ (v : View). v.shown.dead) c.same))
-      where
-        by : (d : Option End) (done : Bool) (end : End) → over_by d done ≡ Some end →
-            end_of what ≡ d → DrainCause tells (acted.Over end) old new
-        by (Some x) done end e f = drain_over what end (f ∙ e) h.asked h.says.faults h.says.shown
-        by None true over.Done e f = tt
-        by None true over.LinkFault e f = cc
-        by None true over.SpillFault e f = cc
-        by None true over.AppFault e f = cc
-        by None true over.NoMemory e f = cc
-        by None true (over.TimedOut t u) e f = cc
-        by None true over.ShutDown e f = cc
-        by None false end e f = cc
+    drain_cause alive (Some end) e = over_so (λ end. DrainCause tells (acted.Over end) old new)
+        new.shown.dead (is_done new.shown) end e
+        (λ is. drain_over what end (sym (said_dead alive)
+        ∙ (sym (ap (λ (v : View). v.shown.dead) c.same) ∙ is)) h.asked h.says.faults h.says.shown)
+        tt
 
     unput_said : new.shown.put ≡ old.shown.put
     unput_said = ap (λ (v : View). v.shown.put) c.same

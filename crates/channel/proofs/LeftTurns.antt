@@ -29,7 +29,7 @@ use Rattle.channel.specs.declared.acts.LeftAct.{LeftAct}
 use Rattle.channel.specs.declared.acts.LeftAct.TheVariants.{Put, Drained, Killed, Buried}
 use Rattle.channel.proofs.ActLemmas.{buried_agrees, drained_agrees, killed_agrees, none_buried}
 use Rattle.channel.proofs.ActLemmas.{none_killed, put_agrees, same, touched_agrees}
-use Rattle.channel.proofs.SideLemmas.{no_kill, side_breaks, side_drains, side_kills}
+use Rattle.channel.proofs.SideLemmas.{no_kill, side_breaks, side_drains, side_ends}
 use Rattle.channel.proofs.SideLemmas.{side_puts}
 
 module _ {A R S : Type 0} (known : Known A R S) where
@@ -167,7 +167,8 @@ module _ {A R S : Type 0} (known : Known A R S) where
           keeps = λ l r was kept. subst (λ (acts : List (LeftAct S)). KeepsSide known.spill_tells
               old.fixed.value.limits old.fixed.value.window.timeout new_side (left_acts l acts))
               (sym is)
-              (side_kills _ _ _ _ _ l tells (none l r was) kept end buried unbroken kills limits
+              (side_ends _ _ _ _ _ l tells (none l r was) kept (left_by l (Killed end)) end refl refl
+              refl (buried ∙ kept.buried) (λ e. absurd (unbroken e)) kills limits
               piece
               more
               (subst (λ z. units z (old_side.story.fed ++ piece)
@@ -213,7 +214,8 @@ module _ {A R S : Type 0} (known : Known A R S) where
       keeps = λ l r was kept. subst (λ (acts : List (LeftAct S)). KeepsSide known.spill_tells
           old.fixed.value.limits old.fixed.value.window.timeout new_side (left_acts l acts))
           (sym is)
-          (side_kills _ _ _ _ _ l tells (none l r was) kept over.LinkFault buried (λ f. cc) refl
+          (side_ends _ _ _ _ _ l tells (none l r was) kept (left_by l (Killed over.LinkFault))
+          over.LinkFault refl refl refl (buried ∙ kept.buried) (λ f. cc) refl
           (ap (λ s. s.limits) story) [] []
           (ap (units _) (append-nil old_side.story.fed) ∙ sym (append-nil _)) (ap (λ s. s.fed) story
           ∙ sym (append-nil old_side.story.fed)) (λ f. refl)

@@ -14,26 +14,13 @@ use Rattle.channel.specs.Histories.{LeftEntry, RightEntry, left_past, left_start
 use Rattle.channel.specs.Histories.{right_start}
 use Rattle.channel.specs.Output.{Script, joined}
 use Rattle.channel.specs.Sides.{Answers, KeepsSide, Side}
-use Rattle.channel.specs.State.{State}
+use Rattle.channel.specs.State.{State, opened_state}
 use Rattle.channel.specs.Writing.{KeepsWriting}
 use Rattle.channel.specs.declared.shared.Fixed.{Fixed}
 use Rattle.channel.specs.declared.writing.Writing.TheVariants.{Idle}
 use Rattle.channel.proofs.ActLemmas.{same, unbroken}
 use Rattle.channel.proofs.Asked.{asked_none}
 use Rattle.channel.proofs.SideLemmas.{no_kill}
-
-abbrev pub opened_state : {A R S : Type 0} → Told (Fixed A) → Buffered S → State A R S
-opened_state fixed output = record {
-  fixed = fixed;
-  ready = [];
-  current = false;
-  output =
-      Some output;
-  closing = false;
-  dead = None;
-  longest = 0;
-  fallen = None;
-}
 
 no_texts : {S : Type 0} (site : Site) (script : Script) (peer : Peer) →
     WritesTexts {S = S} site script peer right_start

@@ -123,7 +123,7 @@ module _ {S : Type 0} (spill_tells : Bool) (limits : Limits) (timeout : ℕ) (ol
   }
 
   -- it is killed, whatever the last piece brought, and what broke may be taken out at once
-  side_ends : (new_left : LeftPast S) (end : End) → new_left.put ≡ l.put → new_left.drained
+  pub side_ends : (new_left : LeftPast S) (end : End) → new_left.put ≡ l.put → new_left.drained
       ≡ l.drained → new_left.killed ≡ Some end → new.buried ≡ new_left.buried →
       (end ≡ over.SpillFault → new_left.buried ≡ true) →
       IsTrue (is_killer end) → (limits_are : new.story.limits ≡ old.story.limits)
@@ -167,21 +167,6 @@ module _ {S : Type 0} (spill_tells : Bool) (limits : Limits) (timeout : ℕ) (ol
         link_fault = λ e. link (same _ _ (sym killed ∙ e));
         timed = λ at now e. timed at now (same _ _ (sym killed ∙ e));
       }
-
-  pub side_kills : (end : End) (buried : new.buried ≡ old.buried) → (end ≡ over.SpillFault → ⊥) →
-      IsTrue (is_killer end) → (limits_are : new.story.limits ≡ old.story.limits)
-      (piece : List (ℕ × ℕ)) (more : List Asked) → units limits (old.story.fed ++ piece)
-      ≡ units limits old.story.fed ++ more → new.story.fed ≡ old.story.fed ++ piece →
-      (loses_units (Some end) ≡ false → more ≡ []) →
-      (IsTrue old.tells → new.link.arrivals ≡ old.link.arrivals ++ piece) →
-      (IsTrue old.tells → new.link.sent ≡ old.link.sent) →
-      (IsTrue old.tells → new.ended ≡ new.link.ended) →
-      (IsTrue old.tells → new.touched ≡ new.link.touched) →
-      (end ≡ over.LinkFault → 0 < new.faults) →
-      ((at now : ℕ) → end ≡ over.TimedOut at now → (at ≡ new.touched) × (at + timeout < now)) →
-      KeepsSide spill_tells limits timeout new (left_by l (Killed end))
-  side_kills end buried unbroken = side_ends (left_by l (Killed end)) end refl refl refl (buried
-      ∙ was.buried) (λ e. absurd (unbroken e))
 
   -- a spill failed, and is taken out
   pub side_breaks : (new.buried ≡ true) → (limits_are : new.story.limits ≡ old.story.limits)

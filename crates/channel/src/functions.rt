@@ -1,6 +1,6 @@
 //! What a turn does to the state, one act at a time. Each end of a channel uses them, and so does a
 //! channel of one owner.
-ghost use Rattle.std.specs.Prelude.{◌≡◌, ◌≤◌, ◌<◌, ◌++◌, [], ◌&&◌, ◌||◌, ◌==◌, true, false};
+ghost use Rattle.std.specs.Prelude.{◌≡◌, ◌≤◌, ◌<◌, ◌++◌, ◌&&◌, ◌||◌, ◌==◌, true, false};
 ghost use Rattle.std.specs.Prelude.{if◌then◌else◌, Some, None, IsTrue, is_some, length, nat_lt};
 ghost use Rattle.std.specs.Prelude.{take, min, IfOk, OnOk, OnErr};
 ghost use Rattle.std.specs.Option.{ForSome};
@@ -9,7 +9,7 @@ ghost use Rattle.channel.specs.Acting.{goes_on, is_working, over_of, output_leng
 ghost use Rattle.channel.specs.Acting.{spill_by, spill_counted, unit_count};
 ghost use Rattle.channel.specs.Agreement.{end_by};
 ghost use Rattle.outside.specs.declared.types.End.TheVariants as over;
-ghost use Rattle.channel.specs.State.{state_of};
+ghost use Rattle.channel.specs.State.{opened_state, state_of};
 
 use crate::shared::{Fixed, Shared};
 use crate::types::Cause;
@@ -37,17 +37,7 @@ impl<A, R: Drop, S: Spill + Drop> Shared<A, R, S> {
         fixed: Told<Fixed<A>>,
         output: OverflowBuffer<S>,
     ) -> Shared<A, R, S>
-        ensures { state_of result ≡ record {
-          fixed = fixed;
-          ready = [];
-          current = false;
-          output =
-              Some output;
-          closing = false;
-          dead = None;
-          longest = 0;
-          fallen = None;
-        } }
+        ensures { state_of result ≡ opened_state fixed output }
     {
         Shared {
             fixed,

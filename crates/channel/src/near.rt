@@ -210,15 +210,15 @@ impl<L: Link + Drop, A: App<S>, S: Spill + Send + Drop> Near<L, A, S> {
             over.SpillFault → result.broken ≡ spill_by state.output None }
     {
         let Near {
+            buried,
+            broken,
+            fallen,
             link,
             peer,
             stream: _,
             window: _,
             touched: _,
             ended: _,
-            buried,
-            broken,
-            fallen,
         } = self;
         if buried {
             return Closed {
