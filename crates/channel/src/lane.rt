@@ -1,10 +1,12 @@
 //! One connection, as its server sees it.
-ghost use Rattle.std.specs.Prelude.{◌≡◌, ◌≤◌, ◌<◌, false, None, Some, IsTrue, IsSome, IfOk};
+ghost use Rattle.std.specs.Prelude.{◌≡◌, ◌≤◌, ◌<◌, true, false, None, Some, IsTrue, IsSome, IfOk};
 ghost use Rattle.std.specs.Prelude.{IfErr, length};
+ghost use Rattle.std.specs.List.{list_any};
 ghost use Rattle.outside.specs.Link.{opened};
 ghost use Rattle.outside.specs.Net.{asked_of};
 ghost use Rattle.proxy_trust.specs.Rules.{IsSound};
 ghost use Rattle.request_stream.specs.Reading.{ArePositive};
+ghost use Rattle.request_stream.specs.Units.{closing, units};
 ghost use Rattle.outside.specs.declared.types.End.{End as AnEnd};
 ghost use Rattle.channel.specs.Output.{IsPrefix};
 ghost use Rattle.channel.specs.Owed.{PutsAsked, owed_by};
@@ -12,7 +14,7 @@ ghost use Rattle.channel.specs.Sides.{IsUsable};
 ghost use Rattle.channel.specs.Views.{Advances, Calls, CheckCause, Checks, DrainCause, Drains};
 ghost use Rattle.channel.specs.Views.{Moves, ReadCause, Reads, Stirs, UnlessOver, fresh, is_due};
 ghost use Rattle.channel.specs.Views.{EndsBy, over_of};
-ghost use Rattle.channel.specs.Views.{telling, view, want_of};
+ghost use Rattle.channel.specs.Views.{telling, units_of, view, want_of};
 
 use crate::near::Near;
 use crate::shared::{Fixed, Shared};
@@ -76,11 +78,41 @@ impl<'a, L: Link + Drop, A: App<S>, S: Spill + Send + Drop> Lane<'a, L, A, S> {
         self.channel.is_due()
     }
 
+    /// Its link.
+    pub fn link(&self) -> &L
+        ensures { result.now ≡ self.now.link }
+    {
+        &self.channel.near.link
+    }
+
+    /// Whether nothing more is asked for, whatever comes.
+    pub fn finished(&self) -> bool
+        ensures value { result ≡ self.now.shown.finished }
+        ensures closes { IsTrue L.tells → list_any closing (units self.now.fixed.limits
+            (L.state self.now.link).arrivals) ≡ true → result ≡ true }
+    {
+        self.channel.finished()
+    }
+
+    /// How many units are ready or current.
+    pub fn unit_count(&self) -> u64
+        ensures { result ≡ units_of self.now.shown }
+    {
+        self.channel.state.unit_count()
+    }
+
+    /// How many steps the run of the current answer may have left.
+    pub fn left(&self) -> u64
+        ensures { result ≡ self.now.shown.left }
+    {
+        self.channel.left()
+    }
+
     /// How many bytes of the answers wait to be sent.
     pub fn output_len(&self) -> u64
         ensures { result ≡ self.now.shown.output }
     {
-        self.channel.output_len()
+        self.channel.state.output_len()
     }
 
     /// Makes one recv into the room, where more is to be taken in.

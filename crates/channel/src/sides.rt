@@ -1,8 +1,11 @@
 //! A channel for one thread: both sides, and what they did.
-ghost use Rattle.std.specs.Prelude.{◌≡◌, ◌≤◌, ◌<◌, false, length, is_some, IsSome, IsTrue, Some};
+ghost use Rattle.std.specs.Prelude.{◌≡◌, ◌≤◌, ◌<◌, ◌||◌, true, false, length, is_some, IsSome};
+ghost use Rattle.std.specs.Prelude.{IsTrue, Some};
+ghost use Rattle.std.specs.List.{list_any};
 ghost use Rattle.outside.specs.Net.{asked_of};
 ghost use Rattle.proxy_trust.specs.Rules.{IsSound};
 ghost use Rattle.request_stream.specs.Reading.{ArePositive};
+ghost use Rattle.request_stream.specs.Units.{closing, units};
 ghost use Rattle.outside.specs.declared.types.End.{End as AnEnd};
 ghost use Rattle.channel.specs.Acting.{output_length, over_of};
 ghost use Rattle.channel.specs.Agreement.{Agrees, known_by};
@@ -136,10 +139,24 @@ impl<'a, L: Link + Drop, A: App<S>, S: Spill + Send + Drop> Channel<'a, L, A, S>
             && self.state.output_len() <= self.near.window.high_watermark
     }
 
-    pub(crate) fn output_len(&self) -> u64
-        ensures { result ≡ output_length (state_of self.now.state) }
+    /// Whether nothing more is asked for, whatever comes.
+    pub(crate) fn finished(&self) -> bool
+        ensures value { result ≡ (self.now.near.stream.failed || self.now.near.stream.over) }
+        ensures closes { IsTrue L.tells → list_any closing (units self.now.state.fixed.value.limits
+            (L.state self.now.near.link).arrivals) ≡ true → result ≡ true }
     {
-        self.state.output_len()
+        self.near.stream.finished()
+    }
+
+    /// How many steps the run of the current answer may have left.
+    pub(crate) fn left(&self) -> u64
+        ensures { result ≡ steps_left A.Run.left self.now.writing }
+    {
+        match &self.writing {
+            Writing::Scripted(script) => script.run.left(),
+            Writing::Waits(waiting) => waiting.script.run.left(),
+            Writing::Idle | Writing::Last(..) => 0,
+        }
     }
 
     pub(crate) fn read<P: Spills<Spill = S>>(
