@@ -2,8 +2,8 @@
 use crate::case::SUNDAY;
 use crate::crowd::{Crowd, Guest, ONE, TWO, check_crowd};
 use crate::texts::{
-    ALIVE_TWICE, ANSWER, BAD_CHUNK, BAD_LENGTH, BAD_LINE, CLOSED, CONTINUE, FIVE, KEPT, LATE,
-    REQUEST, SEVEN,
+    ALIVE_TWICE, ANSWER, BAD_CHUNK, BAD_LENGTH, BAD_LINE, CLOSED, CONTINUE, FIVE, KEPT, KEPT_LATE,
+    LATE, REQUEST, SEVEN,
 };
 use outside::End;
 use std::test::Fail;
@@ -357,7 +357,8 @@ const CUT_SHORT: [Crowd<'static>; 3] = [
         }],
         ..TWO
     },
-    // One is silent, one gives and one takes a byte at a time, and one takes no more.
+    // One is silent, one gives and one takes a byte at a time, one sends two requests of which each
+    // is answered with the date of its last byte, and one takes no more.
     Crowd {
         words: "--threads=0|--channel-timeout=10|--cleanup-interval=5|echo",
         later: [0, 0, 0, 0, 0, 8, 8],
@@ -372,6 +373,13 @@ const CUT_SHORT: [Crowd<'static>; 3] = [
             Guest {
                 takes: &[1],
                 times: 152,
+                ..ONE
+            },
+            Guest {
+                input: &[GET, GET],
+                gives: &[7],
+                times: 8,
+                sent: &[KEPT, KEPT_LATE],
                 ..ONE
             },
             Guest {

@@ -28,6 +28,13 @@ pub(crate) const KEPT: &[u8] = b"HTTP/1.1 200 OK\r\n\
     Date: Sun, 06 Nov 1994 08:49:37 GMT\r\n\
     Server: waitress\r\n\r\n";
 
+// The same, sixteen seconds later.
+pub(crate) const KEPT_LATE: &[u8] = b"HTTP/1.1 200 OK\r\n\
+    Content-Length: 0\r\n\
+    Content-Type: application/octet-stream\r\n\
+    Date: Sun, 06 Nov 1994 08:49:53 GMT\r\n\
+    Server: waitress\r\n\r\n";
+
 pub(crate) const KEPT_TWICE: &[u8] = b"HTTP/1.1 200 OK\r\n\
     Content-Length: 0\r\n\
     Content-Type: application/octet-stream\r\n\
