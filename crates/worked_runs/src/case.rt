@@ -41,7 +41,11 @@ pub(crate) struct Case<'a> {
     pub(crate) takes: u32,
     pub(crate) second_send_fails: bool,
     pub(crate) files: &'a [File<'a>],
+    // the number of the spill, from 0, whose first write fails
+    pub(crate) broken_spill: Option<usize>,
     pub(crate) status: u8,
+    // how often the spills failed that were settled
+    pub(crate) spill_faults: u64,
     // how often the entries of files failed that were settled
     pub(crate) tree_faults: u64,
     // how many connections were retired
@@ -72,7 +76,9 @@ pub(crate) const SERVED: Case<'static> = Case {
     takes: 8192,
     second_send_fails: false,
     files: &[],
+    broken_spill: None,
     status: 0,
+    spill_faults: 0,
     tree_faults: 0,
     retired: 1,
     end: End::Done,
@@ -94,6 +100,18 @@ pub(crate) fn failing(alloc: Global, call: Option<u64>) -> Result<Vec<u64>, Allo
     let mut fails = Vec::new(alloc);
     if let Some(number) = call {
         fails.push(number)?;
+    }
+    Ok(fails)
+}
+
+// The calls that fail of each spill up to the broken one.
+fn spill_fails(alloc: Global, broken: Option<usize>) -> Result<Vec<Vec<u64>>, AllocError> {
+    let mut fails = Vec::new(alloc);
+    if let Some(number) = broken {
+        for _ in 0..number {
+            fails.push(Vec::new(alloc))?;
+        }
+        fails.push(failing(alloc, Some(0))?)?;
     }
     Ok(fails)
 }
@@ -190,13 +208,14 @@ pub(crate) fn check<R: Threads + Wait + Abort + AllocGlobal + Sync>(
     let mut held = Memory {
         net: net(alloc, case)?,
         tree: tree_of(alloc, case.files)?,
-        spills: MemSpills::new(alloc, Vec::new(alloc)),
+        spills: MemSpills::new(alloc, spill_fails(alloc, case.broken_spill)?),
         out: MemSink::new(alloc, failing(alloc, first(case.out_fails))?),
         err: MemSink::new(alloc, failing(alloc, first(case.err_fails))?),
     };
     let status = status_of(rt, &words, &mut held);
     assert_eq!(rt; status, case.status);
     assert_eq!(rt; held.tree.faults(), case.tree_faults);
+    assert_eq!(rt; held.spills.faults(), case.spill_faults);
     assert_eq!(rt; held.out.written(), case.out);
     assert_eq!(rt; held.err.written(), case.err);
     match held.net.closed() {

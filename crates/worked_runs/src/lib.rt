@@ -23,6 +23,8 @@ mod kinds;
 #[cfg(test)]
 mod many;
 #[cfg(test)]
+mod spilled;
+#[cfg(test)]
 mod tables;
 #[cfg(test)]
 mod texts;

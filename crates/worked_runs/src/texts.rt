@@ -175,6 +175,13 @@ pub(crate) const SHORT: &[u8] = b"HTTP/1.1 200 OK\r\n\
     Server: waitress\r\n\r\n\
     abc";
 
+pub(crate) const EIGHTEEN: &[u8] = b"HTTP/1.1 200 OK\r\n\
+    Content-Length: 18\r\n\
+    Content-Type: text/plain; charset=utf-8\r\n\
+    Date: Sun, 06 Nov 1994 08:49:37 GMT\r\n\
+    Server: waitress\r\n\r\n\
+    abcdefghijklmnopqr";
+
 pub(crate) const FAILED: &[u8] = b"HTTP/1.1 500 Internal Server Error\r\n\
     Connection: close\r\n\
     Content-Length: 110\r\n\
