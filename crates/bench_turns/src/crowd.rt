@@ -1,5 +1,6 @@
 //! A net of one busy connection among many idle ones.
-ghost use Rattle.std.specs.Prelude.{◌<◌};
+ghost use Rattle.std.specs.Prelude.{◌≡◌, ◌<◌, All, IsTrue, map};
+ghost use Rattle.outside.specs.Net.{MayOnlyAsAsked, asked_of};
 
 use outside::{Bytes, End, Failed, Link, Listen, Net, NetFault, Peer, Recv, Sent, Turn, Want};
 use std::alloc::Global;
@@ -42,6 +43,24 @@ impl CrowdNet {
     }
 }
 
+fn may(asked: bool, is_busy: bool) -> bool
+    ensures { IsTrue result → IsTrue asked }
+{
+    asked && is_busy
+}
+
+// The busy connection is ready for what it asks, and no other.
+fn answer_all(wants: &mut Vec<Want>)
+    ensures asked { map asked_of wants.new.items ≡ map asked_of wants.old.items }
+    ensures only { All MayOnlyAsAsked wants.new.items }
+{
+    for want in wants.iter_mut() {
+        let is_busy = want.key == 0;
+        want.may_read = may(want.read, is_busy);
+        want.may_write = may(want.write, is_busy);
+    }
+}
+
 impl Link for CrowdLink {
     ghost use Rattle.std.specs.Prelude.{false};
     ghost use Rattle.outside.specs.Link.{opened};
@@ -78,7 +97,7 @@ impl Link for CrowdLink {
 }
 
 impl Net for CrowdNet {
-    ghost use Rattle.std.specs.Prelude.{◌<◌, false, [], None};
+    ghost use Rattle.std.specs.Prelude.{◌<◌, ◌≤◌, false, [], None};
 
     type Link = CrowdLink;
 
@@ -106,6 +125,8 @@ impl Net for CrowdNet {
 
     ghost taken = { λ n key. key < n.given };
 
+    ghost nobody = { λ n. n.comers ≤ n.given };
+
     ghost bind_faults = { λ _. 0 };
 
     ghost poll_faults = { λ _. 0 };
@@ -115,10 +136,7 @@ impl Net for CrowdNet {
     }
 
     fn poll(&mut self, wants: &mut Vec<Want>, accepting: bool) -> Result<Turn, Failed> {
-        if let Some(busy) = wants.first_mut() {
-            busy.may_read = busy.read;
-            busy.may_write = busy.write;
-        }
+        answer_all(wants);
         let stop = self.turns_left == 0;
         self.turns_left = self.turns_left.saturating_sub(1);
         Ok(Turn {

@@ -1,0 +1,23 @@
+use Rattle.std.proofs.Common.{◌≢◌, ◌<◌, ◌∙◌, length, refl, false, arith, below_more, get_or-set_other, get_or-set_same}
+use Rattle.std.proofs.Math.Seq.{map-set_same}
+use Rattle.outside.specs.Net.{asked_of}
+use Rattle.outside.specs.declared.types.Want.{Want}
+use Rattle.bench_turns.proofs.crowd.answer_all.Goals as goal
+
+pub loop-want-preserved : goal.loop-want-preserved
+loop-want-preserved c =
+    let wants = c.loop-want.want-items in
+    let at = c.loop-want.want-index in
+    let some : Want =
+    record { key = 0; read = false; write = false; may_read = false; may_write = false } in
+    let within : at < length wants = omega arith in
+    record {
+      asked = map-set_same asked_of wants at _ some refl ∙ c.loop-want.invariant.asked;
+      only = below_more _ _
+          (λ k before d. let ne : k ≢ at = omega arith in
+          rw get_or-set_other (c.loop-want.invariant.only k before d))
+          (λ d. rw get_or-set_same (record {
+            read = c.may-want.ensures;
+            write = c.may-want-in-loop-want.ensures;
+          }));
+    }
