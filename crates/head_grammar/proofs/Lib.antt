@@ -1,14 +1,13 @@
 pub mod EndLaws
 pub mod VerdictLaws
 mod EndSearch
-mod MoreFields
+mod FieldPairs
 mod LineParts
 mod LowerCase
 mod Rests
 mod Walks
 mod Digits
 mod Firsts
-mod ListEnds
 mod OneByOne
 mod Places
 mod KeptFields

@@ -1,11 +1,11 @@
 pub mod Classes
 pub mod Combining
-pub mod Cuts
 pub mod Ends
 pub mod FieldLines
 pub mod Framings
 pub mod Heads
 pub mod Lines
+pub mod Pairs
 pub mod RequestLines
 pub mod Targets
 pub mod Verdict

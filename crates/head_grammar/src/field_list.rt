@@ -4,29 +4,37 @@ ghost use Rattle.std.specs.Prelude.{◌≡◌, ◌∷◌, [], ◌++◌, IfOk, On
 use crate::Field;
 use crate::field_line::SentField;
 use crate::fields::Fields;
-use crate::text::{put, put_lower_case};
+use pair_list::{Letters, PairList};
 use std::alloc::{AllocError, Global};
 use std::marker::Model;
+
+/// Names are kept in lower case.
+struct LowerCase;
+
+impl Letters for LowerCase {
+    ghost use Rattle.std.specs.Char.{to_ascii_lowercase};
+
+    ghost form = { to_ascii_lowercase };
+
+    fn of(byte: u8) -> u8 {
+        byte.to_ascii_lowercase()
+    }
+}
 
 /// Fields in order. They take two allocations, however many they are.
 #[derive(Debug, Drop)]
 pub struct FieldList {
-    // each name, and its value behind it
-    text: Vec<u8>,
-    // how long the name and the value of each field are
-    sizes: Vec<(usize, usize)>,
+    pairs: PairList,
 }
 
 impl Model for FieldList {
-    ghost use Rattle.std.specs.Prelude.{◌≡◌, List, length};
-    ghost use Rattle.head_grammar.specs.Cuts.{cut, total};
+    ghost use Rattle.std.specs.Prelude.{List};
+    ghost use Rattle.head_grammar.specs.Pairs.{fields_of};
     ghost use Rattle.head_grammar.specs.declared.types.Field.{Field};
 
     ghost Value = { List Field };
 
-    ghost view = { λ fields. cut fields.text.items fields.sizes.items };
-
-    ghost invariant = { λ fields. total fields.sizes.items ≡ length fields.text.items };
+    ghost view = { λ fields. fields_of fields.pairs };
 }
 
 impl FieldList {
@@ -50,8 +58,7 @@ impl FieldList {
         ensures { IfOk result (λ list. list ≡ []) }
     {
         Ok(FieldList {
-            text: Vec::with_capacity(alloc, size)?,
-            sizes: Vec::with_capacity(alloc, count)?,
+            pairs: PairList::with_room(alloc, count, size)?,
         })
     }
 
@@ -59,32 +66,20 @@ impl FieldList {
         ensures { OnOk result (self.new
             ≡ self.old ++ record { name = name.now; value = value.now } ∷ []) }
     {
-        self.sizes.reserve(1)?;
-        self.text.reserve(name.len() + value.len())?;
-        put(&mut self.text, name);
-        put(&mut self.text, value);
-        self.sizes.push_reserved((name.len(), value.len()));
-        Ok(())
+        self.pairs.add(name, value)
     }
 
     /// Adds a field that was sent.
     pub(crate) fn add_sent(&mut self, field: &SentField<'_>) -> Result<(), AllocError>
         ensures { OnOk result (self.new ≡ self.old ++ field.now ∷ []) }
     {
-        let name = field.name;
-        let value = field.value;
-        self.sizes.reserve(1)?;
-        self.text.reserve(name.len() + value.len())?;
-        put_lower_case(&mut self.text, name);
-        put(&mut self.text, value);
-        self.sizes.push_reserved((name.len(), value.len()));
-        Ok(())
+        self.pairs.add_as::<LowerCase>(b"", field.name, field.value)
     }
 
     /// Lends the fields.
     pub fn fields(&self) -> Fields<'_>
         ensures { result ≡ self.now }
     {
-        Fields::new(self.text.as_slice(), self.sizes.as_slice())
+        Fields::new(self.pairs.iter())
     }
 }

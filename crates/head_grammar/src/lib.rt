@@ -16,7 +16,6 @@ mod numbers;
 mod request_line;
 mod splits;
 mod targets;
-mod text;
 mod types;
 mod verdict;
 mod whole_line;

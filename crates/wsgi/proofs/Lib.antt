@@ -1,2 +1,1 @@
-mod MorePairs
 mod Rows

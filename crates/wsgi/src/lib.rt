@@ -4,19 +4,17 @@
 mod app;
 mod of_fields;
 mod of_request;
-mod pairs;
 #[cfg(test)]
 mod shown;
 mod site;
 mod step;
 #[cfg(test)]
 mod tests;
-mod text;
 mod variables;
 
 pub use app::{App, AppRun};
 pub use of_request::environ;
-pub use pairs::Pairs;
+pub use pair_list::Pairs;
 pub use site::Site;
 pub use step::{RunFault, Step};
 pub use variables::Environ;

@@ -2,32 +2,40 @@
 ghost use Rattle.std.specs.Prelude.{◌≡◌, ◌++◌, ◌∷◌, [], codes, map, IfOk, OnOk, option_copied};
 ghost use Rattle.wsgi.specs.Environ.{first_value, optional, variable_byte};
 
-use crate::pairs::Pairs;
-use crate::text::{put, put_variable};
 use outside::Bytes;
+use pair_list::{Letters, PairList, Pairs};
 use std::alloc::{AllocError, Global};
 use std::marker::Model;
 
 const PREFIX: &[u8] = b"HTTP_";
 
+/// Names as those of variables.
+struct Variable;
+
+impl Letters for Variable {
+    ghost form = { variable_byte };
+
+    fn of(byte: u8) -> u8 {
+        if byte == b'-' {
+            b'_'
+        } else {
+            byte.to_ascii_uppercase()
+        }
+    }
+}
+
 /// Names and values. Where a name stands twice, its first value counts.
 #[derive(Debug, Drop)]
 pub struct Environ {
-    // each name, and its value behind it
-    text: Vec<u8>,
-    // how long the name and the value of each pair are
-    sizes: Vec<(usize, usize)>,
+    pairs: PairList,
 }
 
 impl Model for Environ {
-    ghost use Rattle.std.specs.Prelude.{◌≡◌, List, ℕ, length};
-    ghost use Rattle.wsgi.specs.Cuts.{cut, total};
+    ghost use Rattle.std.specs.Prelude.{List, ℕ};
 
     ghost Value = { List (List ℕ × List ℕ) };
 
-    ghost view = { λ environ. cut environ.text.items environ.sizes.items };
-
-    ghost invariant = { λ environ. total environ.sizes.items ≡ length environ.text.items };
+    ghost view = { λ environ. environ.pairs };
 }
 
 impl Environ {
@@ -51,8 +59,7 @@ impl Environ {
         ensures { IfOk result (λ environ. environ ≡ []) }
     {
         Ok(Environ {
-            text: Vec::with_capacity(alloc, size)?,
-            sizes: Vec::with_capacity(alloc, pairs)?,
+            pairs: PairList::with_room(alloc, pairs, size)?,
         })
     }
 
@@ -60,12 +67,7 @@ impl Environ {
     pub(crate) fn add(&mut self, name: &[u8], value: &[u8]) -> Result<(), AllocError>
         ensures { OnOk result (self.new ≡ self.old ++ (name.now, value.now) ∷ []) }
     {
-        self.sizes.reserve(1)?;
-        self.text.reserve(name.len() + value.len())?;
-        put(&mut self.text, name);
-        put(&mut self.text, value);
-        self.sizes.push_reserved((name.len(), value.len()));
-        Ok(())
+        self.pairs.add(name, value)
     }
 
     /// Adds a variable where there is a value.
@@ -88,32 +90,20 @@ impl Environ {
         ensures { OnOk result (self.new
             ≡ self.old ++ (codes "HTTP_" ++ map variable_byte name.now, value.now) ∷ []) }
     {
-        let size = PREFIX.len() + name.len();
-        self.sizes.reserve(1)?;
-        self.text.reserve(size.saturating_add(value.len()))?;
-        put(&mut self.text, PREFIX);
-        put_variable(&mut self.text, name);
-        put(&mut self.text, value);
-        self.sizes.push_reserved((size, value.len()));
-        Ok(())
+        self.pairs.add_as::<Variable>(PREFIX, name, value)
     }
 
     /// The names and values in order.
     pub fn iter(&self) -> Pairs<'_>
         ensures { result ≡ self.now }
     {
-        Pairs::new(self.text.as_slice(), self.sizes.as_slice())
+        self.pairs.iter()
     }
 
     /// The first value under this name.
     pub fn get(&self, name: &[u8]) -> Option<&[u8]>
         ensures { option_copied result ≡ first_value name.now self.now }
     {
-        for (other, value) in self.iter() {
-            if other == name {
-                return Some(value);
-            }
-        }
-        None
+        self.iter().first(name)
     }
 }

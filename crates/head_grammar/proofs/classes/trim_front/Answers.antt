@@ -3,7 +3,7 @@ use Rattle.std.proofs.Common.{◌-◌, ap, drop, length, ◌∙◌, arith}
 use Rattle.std.proofs.lemmas.List.{take_all, length-drop}
 use Rattle.std.specs.Prelude.{unwrap_or}
 use Rattle.head_grammar.specs.Classes.{is_white_space}
-use Rattle.head_grammar.proofs.ListEnds.{first_other}
+use Rattle.byte_tables.proofs.ListEnds.{first_other}
 use Rattle.head_grammar.proofs.classes.trim_front.Goals as goal
 
 pub returns : goal.returns

@@ -1,8 +1,0 @@
--- As many sizes as fields.
-use Rattle.std.proofs.Common.{sym, ap, ◌∙◌, length}
-use Rattle.head_grammar.proofs.MoreFields.{cut_length}
-use Rattle.head_grammar.proofs.fields.Fields.len.Goals as goal
-
-pub returns : goal.returns
-returns c = sym (cut_length c.self.inside.text.now c.self.inside.sizes.now)
-    ∙ ap length c.self.view_is

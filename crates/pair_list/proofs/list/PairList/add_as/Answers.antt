@@ -1,0 +1,20 @@
+-- A pair more is cut off behind those before.
+use Rattle.std.proofs.Common.{◌++◌, ◌∷◌, [], map, ap, ◌∙◌}
+use Rattle.pair_list.proofs.MorePairs.{added_as}
+use Rattle.pair_list.proofs.list.PairList.add_as.Goals as goal
+
+pub invariant_of-self-2 : goal.invariant_of-self-2
+invariant_of-self-2 g c = (added_as
+    g.L.Letters.form c.args.prefix.now c.args.name.now c.args.value.now
+    c.self.invariant c.reserve-2.ensures.items c.put.ensures.items
+    c.put_as.ensures.items c.put-2.ensures.items c.reserve.ensures.items
+    c.push_reserved.ensures.items).0
+
+pub returns : goal.returns
+returns g c = (added_as
+    g.L.Letters.form c.args.prefix.now c.args.name.now c.args.value.now
+    c.self.invariant c.reserve-2.ensures.items c.put.ensures.items
+    c.put_as.ensures.items c.put-2.ensures.items c.reserve.ensures.items
+    c.push_reserved.ensures.items).1
+    ∙ ap (λ z. z ++ (c.args.prefix.now ++ map g.L.Letters.form c.args.name.now, c.args.value.now)
+    ∷ []) c.self.view_is

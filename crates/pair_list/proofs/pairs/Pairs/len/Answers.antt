@@ -1,0 +1,8 @@
+-- As many sizes as pairs.
+use Rattle.std.proofs.Common.{sym, ap, ◌∙◌, length}
+use Rattle.pair_list.proofs.MorePairs.{cut_length}
+use Rattle.pair_list.proofs.pairs.Pairs.len.Goals as goal
+
+pub returns : goal.returns
+returns c = sym (cut_length c.self.inside.text.now c.self.inside.sizes.now)
+    ∙ ap length c.self.view_is

@@ -1,9 +1,0 @@
--- None of the pairs before has the name.
-use Rattle.std.proofs.Common.{◌≡◌}
-use Rattle.wsgi.specs.Environ.{first_value}
-use Rattle.wsgi.proofs.variables.Environ.get.Given as goal
-
-abbrev pub invariant-loop-other : goal.invariant-loop-other
-invariant-loop-other l = record {
-  same : first_value l.name l.other-iterator ≡ first_value l.name l.self;
-}
