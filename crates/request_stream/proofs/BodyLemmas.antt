@@ -5,7 +5,7 @@ use Rattle.std.specs.Prelude.{nat_le}
 use Rattle.std.proofs.lemmas.Bool.{le-leb}
 use Rattle.std.proofs.lemmas.Bool.Decides.{leb_tells}
 use Rattle.std.proofs.lemmas.List.{take-append-le}
-use Rattle.chunk_body.specs.Bodies.{Body, whole, wrong, partial, coded, IsSettled, LiesWithin}
+use Rattle.chunk_body.specs.Bodies.{Body, whole, wrong, partial, IsSettled, LiesWithin}
 use Rattle.head_grammar.specs.declared.types.Framing.{Framing}
 use Rattle.head_grammar.specs.declared.types.Framing.TheVariants.{Empty, Fixed, Chunked}
 use Rattle.request_stream.specs.Units.{coded_by, body_of}

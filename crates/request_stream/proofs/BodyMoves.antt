@@ -11,7 +11,7 @@ use Rattle.request_stream.specs.declared.state.FixedPart.{FixedPart}
 use Rattle.request_stream.specs.declared.state.CodedPart.{CodedPart}
 use Rattle.request_stream.specs.declared.state.State.{State}
 use Rattle.request_stream.specs.declared.state.State.TheVariants.{Filling, Decoding, Over}
-use Rattle.chunk_body.specs.Bodies.{Body, whole, wrong, partial, coded}
+use Rattle.chunk_body.specs.Bodies.{Body, whole, wrong, partial}
 use Rattle.chunk_body.specs.Answers.{IsFed}
 use Rattle.chunk_body.specs.Reading.{Reading}
 use Rattle.chunk_body.specs.declared.chunks.Fed.TheVariants.{More, Done}

@@ -9,7 +9,7 @@ use Rattle.request_stream.specs.declared.types.Limits.{Limits}
 use Rattle.head_grammar.specs.Heads.{Head}
 use Rattle.head_grammar.specs.declared.types.Framing.TheVariants.{Empty, Fixed, Chunked}
 use Rattle.head_grammar.specs.Ends.{head_end}
-use Rattle.chunk_body.specs.Bodies.{whole, partial, coded}
+use Rattle.chunk_body.specs.Bodies.{whole, partial}
 use Rattle.request_stream.specs.Units.{coded_by, verdict_by, bytes_of, when, stamped, body_of}
 use Rattle.request_stream.specs.Units.{waits, ends, too_large, front_by_body, front_by_head}
 use Rattle.request_stream.specs.Units.{front_by_end, front}

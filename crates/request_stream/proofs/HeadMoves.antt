@@ -14,7 +14,6 @@ use Rattle.request_stream.specs.declared.state.State.{State}
 use Rattle.request_stream.specs.declared.state.State.TheVariants.{Seeking, Filling, Decoding, Over}
 use Rattle.request_stream.specs.declared.state.State.TheVariants.{Failed}
 use Rattle.head_grammar.specs.Ends.{head_end}
-use Rattle.chunk_body.specs.Bodies.{coded}
 use Rattle.request_stream.specs.Units.{coded_by, verdict_by, Asked, bytes_of, when, stamped}
 use Rattle.request_stream.specs.Units.{body_of, ends, refusing, too_large, welcome, front_by_body}
 use Rattle.request_stream.specs.Units.{front_by_head, units}

@@ -1,18 +1,17 @@
 -- A piece in steps.
 use Rattle.std.proofs.Common.{◌≡◌, ◌≤◌, ◌<◌, ◌+◌, ◌-◌, ℕ, Bool, false, List, [], ◌++◌, length, take}
-use Rattle.std.proofs.Common.{drop, refl, ap, sym, subst, ◌∙◌, arith}
-use Rattle.std.proofs.lemmas.List.{append-nil, take_all, take-append-drop, length-take, map-append}
+use Rattle.std.proofs.Common.{drop, ap, sym, subst, ◌∙◌, arith}
+use Rattle.std.proofs.lemmas.List.{take-append-drop, length-take, map-append}
 use Rattle.std.proofs.lemmas.List.{take_rest}
 use Rattle.std.proofs.Math.Seq.{take-append-add}
 use Rattle.request_stream.specs.Grammar.{Grammar}
 use Rattle.request_stream.specs.declared.types.Limits.{Limits}
 use Rattle.request_stream.specs.declared.state.State.{State}
 use Rattle.std.specs.List.{list_any}
-use Rattle.request_stream.specs.Units.{Asked, closing, stamped, units}
-use Rattle.request_stream.specs.Reading.{later, HasRead, Reads, GoesOn}
-use Rattle.request_stream.proofs.AskedLemmas.{asked_is}
+use Rattle.request_stream.specs.Units.{Asked, closing, stamped}
+use Rattle.request_stream.specs.Reading.{HasRead, Reads, GoesOn}
 use Rattle.request_stream.proofs.UnitLemmas.{units-nil}
-use Rattle.request_stream.proofs.LaterLemmas.{later_of, alike-same, reads-trans}
+use Rattle.request_stream.proofs.LaterLemmas.{alike-same, reads-trans}
 use Rattle.request_stream.proofs.Ways.{starts, goes_on}
 
 take-add : (piece : List ℕ) (i j : ℕ) → i ≤ length piece → take (i + j) piece

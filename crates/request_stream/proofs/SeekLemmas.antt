@@ -1,14 +1,13 @@
 -- Where the head that is sought ends in the piece.
 use Rattle.std.proofs.Common.{false, ◌≡◌, ◌≤◌, ◌<◌, ◌+◌, ◌-◌, ℕ, min, List, ◌++◌, length, take}
-use Rattle.std.proofs.Common.{drop, None, Some, ap, sym, subst, ◌∙◌, arith, length-append, inl}
+use Rattle.std.proofs.Common.{None, Some, ap, sym, subst, ◌∙◌, arith, length-append, inl}
 use Rattle.std.specs.Prelude.{Bool, Option, Result, Ok, Err, IfOk, IfSome}
-use Rattle.std.proofs.lemmas.List.{take-take, length-take, take-append-drop, take_min}
+use Rattle.std.proofs.lemmas.List.{take-take, length-take, take_min}
 use Rattle.std.proofs.Math.Seq.{take-append-add}
 use Rattle.head_grammar.specs.Ends.{head_end}
 use Rattle.request_stream.specs.Reading.{StandsFor, Reads, is_over, IsSoundHead, LeadsBy, SeeksOn}
 use Rattle.request_stream.specs.Reading.{FoundAt, EndsBy}
 use Rattle.request_stream.specs.Units.{verdict_by, Asked, bytes_of, stamped}
-use Rattle.request_stream.specs.Grammar.{Grammar}
 use Rattle.request_stream.specs.declared.state.State.{State}
 use Rattle.request_stream.specs.declared.state.Step.{Step}
 use Rattle.request_stream.specs.declared.types.Limits.{Limits}

@@ -1,13 +1,12 @@
 -- What a piece adds to all bytes that a stream was fed.
-use Rattle.std.proofs.Common.{Bool, true, false, ◌≡◌, ◌<◌, ◌∷◌, ℕ, [], List, ◌++◌, refl, ap, sym}
+use Rattle.std.proofs.Common.{Bool, true, false, ◌≡◌, ◌<◌, ◌∷◌, ℕ, [], List, ◌++◌, refl, sym}
 use Rattle.std.proofs.Common.{subst, ◌∙◌}
 use Rattle.std.specs.Prelude.{◌||◌, Result, Ok, Err, IfOk, OnOk, OnErr, map}
 use Rattle.std.specs.List.{list_any}
 use Rattle.request_stream.specs.Asks.{asks, IsAdded}
 use Rattle.request_stream.specs.Reading.{Shuts, HasRead, Reads, StandsFor, is_over, is_failed}
 use Rattle.request_stream.specs.Reading.{later}
-use Rattle.request_stream.specs.Room.{held_of}
-use Rattle.request_stream.specs.Story.{Story}
+use Rattle.request_stream.specs.Story.{Story, story_of}
 use Rattle.request_stream.specs.Units.{Asked, units, closing}
 use Rattle.request_stream.specs.Grammar.{Grammar}
 use Rattle.request_stream.specs.declared.state.State.{State}
@@ -55,14 +54,7 @@ module _ (known : Grammar) where
   pub adds_of : {S E : Type 0} {T : Type 0} (items : T → List (AUnit S)) (r : Result T E)
       (story : Story) (tells : Bool) (limits : Limits) (old new : State S)
       (fed came p : List (ℕ × ℕ)) →
-      record {
-        limits = limits;
-        fed = fed;
-        failed = is_failed old;
-        over = is_over old;
-        held =
-            held_of old;
-      } ≡ story → 0 < limits.max_head → came ≡ fed ++ p →
+      story_of limits old fed ≡ story → 0 < limits.max_head → came ≡ fed ++ p →
       (is_failed old ≡ false → HasRead tells limits old fed) →
       IfOk r (λ us. is_failed old ≡ false → Reads tells limits old new p [] (map asks (items us))) →
       IfOk r (λ us. story.failed ≡ false → IsAdded tells (items us) (units story.limits story.fed)
@@ -86,14 +78,7 @@ module _ (known : Grammar) where
 
   pub last_of : {S E : Type 0} {T : Type 0} (items : T → List (AUnit S)) (r : Result T E)
       (story : Story) (tells : Bool) (limits : Limits) (old new : State S) (fed p : List (ℕ × ℕ)) →
-      record {
-        limits = limits;
-        fed = fed;
-        failed = is_failed old;
-        over = is_over old;
-        held =
-            held_of old;
-      } ≡ story → (is_failed old ≡ false → HasRead tells limits old fed) →
+      story_of limits old fed ≡ story → (is_failed old ≡ false → HasRead tells limits old fed) →
       IfOk r (λ us. is_failed old ≡ false → Reads tells limits old new p [] (map asks (items us))) →
       IfOk r (λ us. is_failed old ≡ true → items us ≡ []) →
       IfOk r (λ us. (story.failed || list_any closing (units story.limits story.fed)) ≡ true →
@@ -126,14 +111,7 @@ dead_by false old new us f k n e = no_unit us ((k f).over e).1
 -- nothing is given behind a fault or a unit that closes
 pub dead_of : {S E : Type 0} {T : Type 0} (items : T → List (AUnit S)) (r : Result T E)
     (story : Story) (limits : Limits) (old new : State S) (fed : List (ℕ × ℕ)) →
-    record {
-      limits = limits;
-      fed = fed;
-      failed = is_failed old;
-      over = is_over old;
-      held =
-          held_of old;
-    } ≡ story →
+    story_of limits old fed ≡ story →
     IfOk r (λ us. is_failed old ≡ false → Shuts old new [] (map asks (items us))) →
     IfOk r (λ us. is_failed old ≡ true → items us ≡ []) →
     IfOk r (λ us. (story.failed || story.over) ≡ true → items us ≡ [])
@@ -149,14 +127,7 @@ over_by false old new us e h = sym (h.going e)
 
 pub over_of : {S E : Type 0} {T : Type 0} (items : T → List (AUnit S)) (r : Result T E)
     (story : Story) (limits : Limits) (old new : State S) (fed : List (ℕ × ℕ)) →
-    record {
-      limits = limits;
-      fed = fed;
-      failed = is_failed old;
-      over = is_over old;
-      held =
-          held_of old;
-    } ≡ story →
+    story_of limits old fed ≡ story →
     IfOk r (λ us. is_failed old ≡ false → Shuts old new [] (map asks (items us))) →
     IfOk r (λ us. story.failed ≡ false → is_over new
     ≡ (story.over || list_any closing (map asks (items us))))
