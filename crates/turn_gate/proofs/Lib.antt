@@ -4,3 +4,4 @@ pub mod Moments
 pub mod Openings
 pub mod Steps
 pub mod Turns
+pub mod Names

@@ -3,11 +3,10 @@
 use Rattle.std.proofs.Common.{◌≡◌, ℕ, eqb, true, false, List, [], ◌∷◌, ◌++◌, append_assoc, get_or}
 use Rattle.std.proofs.Common.{set, sym, refl, ap, ◌∙◌, subst, Option, Some, None}
 use mathlib.Core.Option.{some, none}
-use mathlib.Core.Option as maybe
 use mathlib.Core.List.{IsPrefix, append-nil}
 use lib.ListN.{get_elem?}
 use prog.Atomic.{either}
-use Rattle.atomic_table.specs.Table.{State, Me, Step, step, Act, keeps, takes, gives, Valid, rest}
+use Rattle.atomic_table.specs.Table.{Step, step, Act, keeps, takes, gives, Valid, rest}
 use Rattle.atomic_table.specs.Table.{carried_after, homes_after, stepped, Allows}
 use Rattle.atomic_table.specs.declared.shared.Seat.{Seat}
 use Rattle.turn_gate.specs.declared.board.Shelf.{Shelf}
@@ -15,6 +14,7 @@ use Rattle.turn_gate.specs.declared.board.Side.{Side}
 use Rattle.turn_gate.specs.declared.board.View.{View}
 use Rattle.turn_gate.specs.Ends.{End, in_hand, after_turn}
 use Rattle.turn_gate.specs.Gate.{refuse, shelved, Found, took, ended}
+use Rattle.turn_gate.proofs.Names.{GateState, Homes, Knows, Slot}
 
 longer : {A : Type 0} (xs ys zs : List A) → IsPrefix xs ys → IsPrefix ys zs → IsPrefix xs zs
 longer {A} xs ys zs p q = (
@@ -37,14 +37,11 @@ module _ {S L R F O E : Type 0} (agree : S → List L → List R → Type 0) (fi
   abbrev V : Type 0
   V = View L R F
 
-  abbrev X : Type 0
-  X = Option (Shelf S L R)
-
   abbrev St : Type 0
-  St = State X V
+  St = GateState S L R F
 
   abbrev Me' : Type 0
-  Me' = Me X V
+  Me' = Knows S L R F
 
   abbrev own : V → List O
   own v = mine v.left v.right
@@ -86,14 +83,14 @@ module _ {S L R F O E : Type 0} (agree : S → List L → List R → Type 0) (fi
     pub agrees : agree c.state.value w.left w.right
 
   -- what each step tells does not depend on it
-  abbrev pub st₀ : Step X
+  abbrev pub st₀ : Step (Slot S L R)
   st₀ = step 0 0 0 0 none
 
   abbrev pub swaps : ℕ → ℕ → ℕ → ℕ
   swaps a b n = either (eqb n a) b n
 
   abbrev pub Place : Type 0
-  Place = Seat X V
+  Place = Seat (Slot S L R) V
 
   -- the end of a seat, as contracts see it
   abbrev pub end_of : Place → End O E F
@@ -129,7 +126,7 @@ module _ {S L R F O E : Type 0} (agree : S → List L → List R → Type 0) (fi
           (ap (λ (vs : List V). set vs i w) t ∙ puts v them w)
 
       abbrev Takes : ℕ → Me' → St → Type 0
-      Takes id me s = (w : V) × (a : Act X) × Valid s.homes me.1 a × Rule
+      Takes id me s = (w : V) × (a : Act (Slot S L R)) × Valid s.homes me.1 a × Rule
           (stepped s 0 (swaps 0 1 (get_or s.words 0 0)) id me.1 w a)
           × took agree fixed st₀ me (get_or s.words 0 0) (w, carried_after me.1 a)
 
@@ -149,7 +146,7 @@ module _ {S L R F O E : Type 0} (agree : S → List L → List R → Type 0) (fi
               let zero_is : get_or s.words 0 0 ≡ 0 = ap (λ (ws : List ℕ). get_or ws 0 0) word in (
                 w,
                 takes 0 (Some c),
-                ap (λ (hs : List (maybe.Option X)). get_elem? hs 0) home,
+                ap (λ (hs : Homes S L R). get_elem? hs 0) home,
                 obeys (stepped s 0 (swaps 0 1 (get_or s.words 0 0)) id me.1 w (takes 0 (Some c))) w
                     them record {
                       views = placed s id me.0 w them e t.views;
@@ -160,12 +157,12 @@ module _ {S L R F O E : Type 0} (agree : S → List L → List R → Type 0) (fi
                       i_found = ([], append-nil (found_at c) ∙ found_is);
                       moment = i_have refl th (ap (λ (ws : List ℕ).
                           set ws 0 (swaps 0 1 (get_or ws 0 0))) word)
-                          (ap (λ (hs : List (maybe.Option X)). set hs 0 none) home) found_is gone;
+                          (ap (λ (hs : Homes S L R). set hs 0 none) home) found_is gone;
                     },
                 (
                   (λ _. (
                     c,
-                    ap (λ (cs : List (ℕ × X)). (0, Some c) ∷ cs) bare,
+                    ap (λ (cs : List (ℕ × Slot S L R)). (0, Some c) ∷ cs) bare,
                     tells c w record {
                       side = refl;
                       same = refl;
@@ -218,7 +215,8 @@ module _ {S L R F O E : Type 0} (agree : S → List L → List R → Type 0) (fi
           sees s id me.0 at side k in go h.0 h.1 h.2 h.2.moment
         where
           go : id ≡ i → (them : V) → Seen s me.0 them → Moment s me.0 them
-              → (w : V) × (a : Act X) × Valid s.homes me.1 a × Rule (stepped s 0 0 id me.1 w a)
+              → (w : V) × (a : Act (Slot S L R)) × Valid s.homes me.1 a
+              × Rule (stepped s 0 0 id me.1 w a)
               × ended st₀ me 0 (w, carried_after me.1 a)
           go n them t (nobody mh th word c' home own_is found_is fx' ag' gone came) =
               absurd (let x : true ≡ false = sym has ∙ mh in cc)
@@ -234,16 +232,17 @@ module _ {S L R F O E : Type 0} (agree : S → List L → List R → Type 0) (fi
                   this_is = side;
                   that_is = t.that_is;
                   same = t.same;
-                  they_found = longer (own them) (own me.0) (own_at c) t.they_found (e ∷ [], sym more);
+                  they_found = longer (own them) (own me.0) (own_at c) t.they_found
+                      (e ∷ [], sym more);
                   i_found = ([], append-nil (found_at c) ∙ (kept ∙ all));
                   moment = nobody refl th (ap (λ (ws : List ℕ). set ws 0 0) word) c
-                      (ap (λ (cs : List (ℕ × X)). homes_after s.homes cs gives) hand ∙
-                      ap (λ (hs : List (maybe.Option X)). set hs 0 (some (Some c))) home)
+                      (ap (λ (cs : List (ℕ × Slot S L R)). homes_after s.homes cs gives) hand ∙
+                      ap (λ (hs : Homes S L R). set hs 0 (some (Some c))) home)
                       refl (kept ∙ all) fx ag gone refl;
                 },
                 (λ c' hand'. let same : c ≡ c' = ap (first_shelf c) (sym hand ∙ hand') in let bare :
-                    carried_after me.1 gives ≡ [] = ap (λ (cs : List (ℕ × X)). carried_after cs gives)
-                    hand in
+                    carried_after me.1 gives ≡ [] =
+                    ap (λ (cs : List (ℕ × Slot S L R)). carried_after cs gives) hand in
                     (them.refused, λ j. (shelved me.0 (same j) them.refused, bare j))),
               )
 
@@ -260,7 +259,7 @@ module _ {S L R F O E : Type 0} (agree : S → List L → List R → Type 0) (fi
           subst (λ (x : ℕ). Allows Rule slots id me 0 (λ _. x) (λ _. ended st₀ me x)) (sym zero_is)
           (ends_at_zero slots id me c e (ap (λ (m : Me'). m.0.side) now ∙ side)
           (ap (λ (m : Me'). m.0.has) now ∙ has')
-          (ap (λ (m : Me'). m.1) now ∙ ap (λ (cs : List (ℕ × X)). (0, Some c) ∷ rest cs)
+          (ap (λ (m : Me'). m.1) now ∙ ap (λ (cs : List (ℕ × Slot S L R)). (0, Some c) ∷ rest cs)
           (hand ∙ ap in_hand has'))
           (more ∙ sym (ap (λ (m : Me'). own m.0 ++ e ∷ []) now))
           (kept ∙ sym (ap (λ (m : Me'). found m.0) now))
@@ -277,7 +276,7 @@ module _ {S L R F O E : Type 0} (agree : S → List L → List R → Type 0) (fi
       × (seat'.me.1 ≡ in_hand seat'.me.0.has)
   after seat mid seat' c e d is hand has z₀ i₀ now more kept z₁ i₁ done =
       let full : mid.me.1 ≡ (0, Some c) ∷ [] = ap (λ (m : Me'). m.1) now ∙
-      ap (λ (cs : List (ℕ × X)). (0, Some c) ∷ rest cs)
+      ap (λ (cs : List (ℕ × Slot S L R)). (0, Some c) ∷ rest cs)
       (hand ∙ ap in_hand (ap (λ (x : End O E F). x.has) is ∙ has)) in
       let told = done c full in
       let w : seat'.me ≡ (shelved seat.me.0 c told.0, []) = told.1 ∙

@@ -1,11 +1,10 @@
 -- The steps before a gate is open keep its rule.
 use Rattle.std.proofs.Common.{◌≡◌, ◌⊎◌, ℕ, List, [], ◌∷◌, ◌++◌, get_or, set, sym, refl, ap, ◌∙◌}
-use Rattle.std.proofs.Common.{subst, inl, inr, Option, Some, None}
+use Rattle.std.proofs.Common.{subst, inl, inr, Some, None}
 use mathlib.Core.Option.{some, none}
-use mathlib.Core.Option as maybe
 use lib.ListN.{get_elem?}
 use lib.Seq.{set-get_or}
-use Rattle.atomic_table.specs.Table.{State, Me, Step, step, Act, takes, gives, Valid, rest}
+use Rattle.atomic_table.specs.Table.{Step, step, Act, takes, gives, Valid, rest}
 use Rattle.atomic_table.specs.Table.{carried_after, stepped, Allows, Splits}
 use Rattle.turn_gate.specs.declared.board.Entries.{Entries}
 use Rattle.turn_gate.specs.declared.board.Shelf.{Shelf}
@@ -15,24 +14,19 @@ use Rattle.turn_gate.specs.declared.board.View.{View}
 use Rattle.turn_gate.specs.Gate.{alone, Holds, free, Opening, vacant, filling, whole, Kept, began}
 use Rattle.turn_gate.specs.Gate.{filled, left_part, right_part}
 use Rattle.turn_gate.proofs.Steps.{at_two, lone}
+use Rattle.turn_gate.proofs.Names.{GateState, Homes, Knows, Slot}
 
 module _ {S L R F : Type 0} (agree : S → List L → List R → Type 0) (fixed : S → F) where
   abbrev V : Type 0
   V = View L R F
 
-  abbrev X : Type 0
-  X = Option (Shelf S L R)
-
   abbrev St : Type 0
-  St = State X V
-
-  abbrev Me' : Type 0
-  Me' = Me X V
+  St = GateState S L R F
 
   abbrev Rule : St → Type 0
   Rule = Kept agree fixed
 
-  abbrev st₀ : Step X
+  abbrev st₀ : Step (Slot S L R)
   st₀ = step 0 0 0 0 none
 
   -- a seat that is no end yet is the only one
@@ -60,8 +54,8 @@ module _ {S L R F : Type 0} (agree : S → List L → List R → Type 0) (fixed 
   placed : (id : ℕ) (v w : V) (vs : List V) → id ≡ 0 → vs ≡ v ∷ [] → set vs id w ≡ w ∷ []
   placed id v w vs e is = ap (λ (i : ℕ). set vs i w) e ∙ ap (λ (zs : List V). set zs 0 w) is
 
-  abbrev Steps : ℕ → Me' → (ℕ → ℕ) → (ℕ → Me' → Type 0) → St → Type 0
-  Steps id me f then s = (w : V) × (a : Act X) × Valid s.homes me.1 a × Rule
+  abbrev Steps : ℕ → Knows S L R F → (ℕ → ℕ) → (ℕ → Knows S L R F → Type 0) → St → Type 0
+  Steps id me f then s = (w : V) × (a : Act (Slot S L R)) × Valid s.homes me.1 a × Rule
       (stepped s 0 (f (get_or s.words 0 0)) id me.1 w a) × then (get_or s.words 0 0)
       (w, carried_after me.1 a)
 
@@ -73,9 +67,9 @@ module _ {S L R F : Type 0} (agree : S → List L → List R → Type 0) (fixed 
       seat_zero id Vacant f g s.views at views in (
         alone Filling f,
         takes 0 None,
-        ap (λ (hs : List (maybe.Option X)). get_elem? hs 0) home,
+        ap (λ (hs : Homes S L R). get_elem? hs 0) home,
         inl (filling f (placed id (alone Vacant g) (alone Filling f) s.views e.0 views)
-            (set-get_or s.words 0 0 ∙ word) (ap (λ (hs : List (maybe.Option X)). set hs 0 none) home)),
+            (set-get_or s.words 0 0 ∙ word) (ap (λ (hs : Homes S L R). set hs 0 none) home)),
         refl,
       )
   vacant_taken id f s at (filling g views word home) = absurd
@@ -83,9 +77,10 @@ module _ {S L R F : Type 0} (agree : S → List L → List R → Type 0) (fixed 
   vacant_taken id f s at (whole g views word c home x) =
       absurd (let y : Whole ≡ Vacant = stage id Vacant Whole f g s.views at views in cc)
 
-  pub begins : (slots id : ℕ) (me : Me') (f : F) → me ≡ (alone Vacant f, []) →
+  pub begins : (slots id : ℕ) (me : Knows S L R F) (f : F) → me ≡ (alone Vacant f, []) →
       Allows Rule slots id me 0 (λ n. n) (began st₀ me)
-  begins slots id me f is = subst (λ (m : Me'). Allows Rule slots id m 0 (λ n. n) (began st₀ m))
+  begins slots id me f is = subst
+      (λ (m : Knows S L R F). Allows Rule slots id m 0 (λ n. n) (began st₀ m))
       (sym is)
       (λ s k _ at _. vacant_taken id f s at (opening s id (alone Vacant f) at
       (λ (e : Vacant ≡ Left). cc) (λ (e : Vacant ≡ Right). cc) k))
@@ -101,7 +96,7 @@ module _ {S L R F : Type 0} (agree : S → List L → List R → Type 0) (fixed 
         gives,
         tt,
         inl (whole f (placed id (alone Filling g) (alone Whole f) s.views e.0 views)
-            (ap (λ (ws : List ℕ). set ws 0 0) word) c (ap (λ (hs : List (maybe.Option X)).
+            (ap (λ (ws : List ℕ). set ws 0 0) word) c (ap (λ (hs : Homes S L R).
             set hs 0 (some (Some c))) home) h),
         refl,
       )
@@ -110,12 +105,12 @@ module _ {S L R F : Type 0} (agree : S → List L → List R → Type 0) (fixed 
   slot_filled id f c h s at (whole g views word c' home x) =
       absurd (let y : Whole ≡ Filling = stage id Filling Whole f g s.views at views in cc)
 
-  pub fills : (slots id n : ℕ) (me : Me') (f : F) (c : Shelf S L R) →
+  pub fills : (slots id n : ℕ) (me : Knows S L R F) (f : F) (c : Shelf S L R) →
       me ≡ (alone Filling f, (0, Some c) ∷ []) → c.entries.value ≡ record
       { left = []; right = [] } → fixed c.state.value ≡ f
       → agree c.state.value [] [] → n ≡ 0 → Allows Rule slots id me 0 (λ _. n)
       (λ _. filled st₀ me n)
-  fills slots id n me f c is en fx ag zero_is = subst (λ (x : ℕ × Me').
+  fills slots id n me f c is en fx ag zero_is = subst (λ (x : ℕ × Knows S L R F).
       Allows Rule slots id x.1 0 (λ _. x.0) (λ _. filled st₀ x.1 x.0))
       (λ j. (sym zero_is j, sym is j))
       (λ s k _ at _. slot_filled id f c record {
@@ -128,11 +123,13 @@ module _ {S L R F : Type 0} (agree : S → List L → List R → Type 0) (fixed 
       k))
 
   -- the seat with the first state in its slot
-  pub filling_seat : (f : F) (m₀ m₁ m₂ : Me') (c : Shelf S L R) → m₀ ≡ (alone Vacant f, []) →
+  pub filling_seat : (f : F) (m₀ m₁ m₂ : Knows S L R F) (c : Shelf S L R) →
+      m₀ ≡ (alone Vacant f, []) →
       m₁ ≡ (record m₀.0 { side = Filling }, (0, None) ∷ []) → m₂ ≡ (m₁.0, (0, Some c) ∷ rest m₁.1)
       → m₂ ≡ (alone Filling f, (0, Some c) ∷ [])
-  filling_seat f m₀ m₁ m₂ c e₀ e₁ e₂ = e₂ ∙ ap (λ (m : Me'). (m.0, (0, Some c) ∷ rest m.1))
-      (e₁ ∙ ap (λ (m : Me'). (record m.0 { side = Filling }, (0, None) ∷ [])) e₀)
+  filling_seat f m₀ m₁ m₂ c e₀ e₁ e₂ =
+      e₂ ∙ ap (λ (m : Knows S L R F). (m.0, (0, Some c) ∷ rest m.1))
+      (e₁ ∙ ap (λ (m : Knows S L R F). (record m.0 { side = Filling }, (0, None) ∷ [])) e₀)
 
   -- the split: both ends have no entries, and neither has the turn
   whole_split : (id : ℕ) (f : F) (s : St) → get_elem? s.views id ≡ some (alone Whole f) →

@@ -1,10 +1,10 @@
 -- The steps of each end keep the rule of the gate.
 use Rattle.std.proofs.Common.{◌≡◌, ◌⊎◌, ℕ, zero, suc, true, false, List, [], ◌∷◌, ◌++◌, sym, refl}
-use Rattle.std.proofs.Common.{ap, ◌∙◌, subst, inl, inr, Option, Some}
+use Rattle.std.proofs.Common.{ap, ◌∙◌, subst, inl, inr, Some}
 use mathlib.Core.Option.{some, some-injective, some-ne-none}
 use lib.ListN.{get_elem?}
 use lib.Seq.{set-get_or}
-use Rattle.atomic_table.specs.Table.{State, Me, keeps, rest, Allows}
+use Rattle.atomic_table.specs.Table.{keeps, rest, Allows}
 use Rattle.atomic_table.specs.declared.shared.Seat.{Seat}
 use Rattle.atomic_table.proofs.Lists.{set_again}
 use Rattle.turn_gate.specs.declared.board.Entries.{Entries}
@@ -17,6 +17,7 @@ use Rattle.turn_gate.specs.Gate.{alone, Phase, free, left_has, right_has, Two, O
 use Rattle.turn_gate.specs.Gate.{filling, whole, Kept, took, ended, looked}
 use Rattle.turn_gate.proofs.Moments.{Moment, nobody, i_have, they_have, Seen, st₀, swaps}
 use Rattle.turn_gate.proofs.Moments.{turn_taken, turn_ended, after}
+use Rattle.turn_gate.proofs.Names.{GateState, Knows, Slot}
 
 module _ {A : Type 0} where
   at_one : (a v : A) (i : ℕ) → get_elem? (a ∷ []) i ≡ some v → (i ≡ 0) × (a ≡ v)
@@ -33,17 +34,14 @@ module _ {S L R F : Type 0} (agree : S → List L → List R → Type 0) (fixed 
   abbrev V : Type 0
   V = View L R F
 
-  abbrev X : Type 0
-  X = Option (Shelf S L R)
-
   abbrev St : Type 0
-  St = State X V
+  St = GateState S L R F
 
   abbrev Me' : Type 0
-  Me' = Me X V
+  Me' = Knows S L R F
 
   abbrev Place : Type 0
-  Place = Seat X V
+  Place = Seat (Slot S L R) V
 
   abbrev Rule : St → Type 0
   Rule = Kept agree fixed

@@ -1,6 +1,6 @@
 -- An end of the gate, as contracts see it.
 use Rattle.std.specs.Prelude.{◌≡◌, ℕ, ◌+◌, Bool, true, false, List, [], ◌∷◌, ◌++◌, Option, None}
-use Rattle.std.specs.Prelude.{refl}
+use Rattle.std.specs.Prelude.{Some, refl}
 use Rattle.std.specs.Coded.{Coded, code_by, coded×, coded_ℕ, coded_bool, coded_list}
 use mathlib.Core.List.{IsPrefix}
 use Rattle.atomic_table.specs.Seated.{TableId, table_id_coded}
@@ -58,6 +58,16 @@ with_state t w = record t { state = w }
 abbrev pub in_hand : {X : Type 0} → Bool → List (ℕ × Option X)
 in_hand true = (0, None) ∷ []
 in_hand false = []
+
+module _ {S L R : Type 0} where
+  -- the one slot is out with a seat, and has a state
+  abbrev pub HasShelf : List (ℕ × Option (Shelf S L R)) → Type 0
+  HasShelf hand = (shelf : Shelf S L R) × (hand ≡ (0, Some shelf) ∷ [])
+
+  -- it has this state
+  abbrev pub IsOnShelf : List (ℕ × Option (Shelf S L R)) → S → Type 0
+  IsOnShelf hand state = (shelf : Shelf S L R) → hand ≡ (0, Some shelf) ∷ [] →
+      shelf.state.value ≡ state
 
 module _ {S L R F : Type 0} where
   abbrev pub left_end : Seat (Option (Shelf S L R)) (View L R F) → End L R F

@@ -1,7 +1,7 @@
 //! The table that the two ends share. Word 0 is `FREE`, or `HELD` while an end has the turn. Slot 0
 //! has the state while the word is free, and it is out with the end that has the turn.
 use crate::pact::Pact;
-use atomic_table::{Seat, Table, TableRule};
+use atomic_table::{Seat, Shared, Table, TableRule};
 use outside::Told;
 use std::alloc::Global;
 use std::collections::LinkedList;
@@ -75,5 +75,7 @@ pub type Slot<P> = Option<
 pub type Known<P> = View<<P as Pact>::LeftEntry, <P as Pact>::RightEntry, <P as Pact>::Fixed>;
 
 pub type Board<P> = Table<Slot<P>, Known<P>, Snapshot<<P as Pact>::State>, Gate<P>, Global>;
+
+pub type SharedBoard<P> = Shared<Slot<P>, Known<P>, Snapshot<<P as Pact>::State>, Gate<P>>;
 
 pub type Place<P> = Seat<Slot<P>, Known<P>>;

@@ -51,14 +51,7 @@ impl<P: Pact> Left<P> {
         if !won {
             return None;
         }
-        let Some(shelf) = shared.exchange(&mut self.place, 0, None) else {
-            unreachable!()
-        };
-        let Shelf { state, entries: _ } = shelf;
-        Some(Turn {
-            state,
-            of: Snapshot::of(&self.place),
-        })
+        Some(Turn::taken(shared, &mut self.place))
     }
 
     /// Ends the turn, of which the entry says what it did.

@@ -2,7 +2,7 @@
 use Rattle.std.proofs.Common.{◌∙◌, ap, length}
 use Rattle.std.specs.Prelude.{unwrap_or}
 use Rattle.adjust.specs.Values.{is_slash}
-use Rattle.adjust.proofs.ListEnds.{first_other}
+use Rattle.byte_tables.proofs.ListEnds.{first_other}
 use Rattle.adjust.proofs.values.slashes_in_front.Goals as goal
 
 pub returns-clause-count : goal.returns-clause-count

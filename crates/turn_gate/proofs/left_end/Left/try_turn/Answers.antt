@@ -1,5 +1,4 @@
-use Rattle.std.proofs.Common.{rules, ◌∷◌, sym, ap, ◌∙◌, Some}
-use Rattle.atomic_table.specs.Table.{rest}
+use Rattle.std.proofs.Common.{rules, ap, ◌∙◌}
 use Rattle.turn_gate.specs.Ends.{in_hand}
 use Rattle.turn_gate.proofs.Steps.{takes_left}
 use Rattle.turn_gate.proofs.left_end.Left.try_turn.Goals as goal
@@ -13,6 +12,6 @@ compare_exchange-won-requires g c = let idle = ap (λ e. e.has) c.self.view_is �
       (search rules),
 )
 
-pub exchange-requires : goal.exchange-requires
-exchange-requires g c = let won = c.compare_exchange-won.ensures.2.0 (search rules) in
-    (search rules, (Some won.0, won.1 ∙ ap (λ cs. (0, Some won.0) ∷ rest cs) (sym won.1)))
+pub taken-requires : goal.taken-requires
+taken-requires g c = let won = c.compare_exchange-won.ensures.2.0 (search rules) in
+    (search rules, (search rules, (won.0, won.1)))

@@ -19,14 +19,8 @@ invariant_of-self g c =
     let t = right_after g.P.Pact.agree g.P.Pact.fixed c.self.inside.place c.exchange.new.seat
     c.store.new.seat _ c.args.entry _ c.self.view_is c.self.invariant.4 c.requires.own.1
     c.exchange.ensures.0 c.exchange.ensures.1 c.exchange.ensures.3 (search rules) c.store.ensures.0
-    c.store.ensures.1 c.store.ensures.2 in (
-      search rules,
-      search rules,
-      search rules,
-      t.1 ∙
-          c.self.invariant.3,
-      t.2,
-    )
+    c.store.ensures.1 c.store.ensures.2 in
+    (search rules, search rules, search rules, t.1 ∙ c.self.invariant.3, t.2)
 
 pub returns : goal.returns
 returns g c =
