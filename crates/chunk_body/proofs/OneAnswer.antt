@@ -6,7 +6,8 @@ use Rattle.std.proofs.lemmas.List.{append-nil, append_cancel_left, take-append-d
 use Rattle.chunk_body.specs.Reading.{line_bytes, has_ended, mark_step, Reading, trailer_at, step}
 use Rattle.chunk_body.specs.Reading.{limited, is_last, is_last_of_trailer, line_within, advance}
 use Rattle.chunk_body.specs.Reading.{reads, decodes, is_refused, fresh}
-use Rattle.chunk_body.proofs.Places.{IsRefused, Because, large, wrong, long, late}
+use Rattle.chunk_body.specs.Verdicts.{large, wrong, long, late}
+use Rattle.chunk_body.proofs.Places.{IsRefused, Because}
 use Rattle.chunk_body.specs.Answers.{Tells, IsNoMemory}
 use Rattle.chunk_body.specs.Verdicts.{IsOpen as Open, IsWhole as Whole, IsRefused as Ends}
 use Rattle.chunk_body.proofs.Standing.{open_from, whole_from, refused_from, same_before}

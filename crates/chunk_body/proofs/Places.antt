@@ -4,7 +4,7 @@ use Rattle.std.specs.Prelude.{◌≡◌, ◌<◌, ◌+◌, ◌⊎◌, ℕ, false
 use Rattle.std.specs.List.{AllByRecursion}
 use Rattle.chunk_body.specs.Coded.{Chunk, IsChunk, text, joined, AreDigits, IsTrailer, IsCoded}
 use Rattle.chunk_body.specs.Verdicts.{InBlanks, InExtension, InLineEnd, InData, BehindLast}
-use Rattle.chunk_body.specs.Verdicts.{IsOpenTrailer, IsProperFront, IsWrong}
+use Rattle.chunk_body.specs.Verdicts.{IsOpenTrailer, IsProperFront, AnyLimit, Within, Reason}
 use Rattle.byte_tables.specs.declared.refusal.Refusal.{Refusal}
 use Rattle.byte_tables.specs.declared.refusal.Refusal.TheVariants.{BodyTooLarge, ChunkSize}
 use Rattle.byte_tables.specs.declared.refusal.Refusal.TheVariants.{ChunkExtension, ChunkLineEnd}
@@ -76,12 +76,10 @@ pub record IsTrailerLimit (max : ℕ) (before : List ℕ) : Type 0 where
   pub full : count + 1 ≡ max
 
 abbrev pub IsLimit : ℕ → ℕ → List ℕ → ℕ → Type 0
-IsLimit max_body max_trailer before byte = (length before + 1 ≡ max_body)
-    ⊎ (IsLineLimit before byte ⊎ IsTrailerLimit max_trailer before)
+IsLimit max_body max_trailer = AnyLimit max_body IsLineLimit (IsTrailerLimit max_trailer)
 
-pub record IsWithin (max_body max_trailer : ℕ) (wire : List ℕ) : Type 0 where
-  pub none : (before after : List ℕ) (byte : ℕ) → wire ≡ before ++ (byte ∷ after) →
-      IsLimit max_body max_trailer before byte → ⊥
+abbrev pub IsWithin : ℕ → ℕ → List ℕ → Type 0
+IsWithin max_body max_trailer = Within max_body IsLineLimit (IsTrailerLimit max_trailer)
 
 pub record IsOpen (max_body max_trailer : ℕ) (wire body : List ℕ) : Type 0 where
   pub place : Place
@@ -94,17 +92,9 @@ pub record IsWhole (max_body max_trailer : ℕ) (wire body : List ℕ) : Type 0 
   pub coded : IsCoded wire body
   pub within : IsWithin max_body max_trailer wire
 
-pub data Because (max_body max_trailer : ℕ) (place : Place) (before : List ℕ) (byte : ℕ) : Refusal →
-    Type 0 where
-  large : length before + 1 ≡ max_body → Because max_body max_trailer place before byte
-      (BodyTooLarge max_body)
-  late : (length before + 1 ≡ max_body → ⊥) → IsTrailerLimit max_trailer before →
-      Because max_body max_trailer place before byte (TrailerTooLarge max_trailer)
-  wrong : (length before + 1 ≡ max_body → ⊥) → (IsTrailerLimit max_trailer before → ⊥) →
-      IsWrong (before ++ byte ∷ []) → Because max_body max_trailer place before byte
-      (refusal_at place)
-  long : (length before + 1 ≡ max_body → ⊥) → (IsWrong (before ++ byte ∷ []) → ⊥) →
-      IsLineLimit before byte → Because max_body max_trailer place before byte ChunkLineLong
+abbrev pub Because : ℕ → ℕ → Place → List ℕ → ℕ → Refusal → Type 0
+Because max_body max_trailer place =
+    Reason max_body IsLineLimit (IsTrailerLimit max_trailer) max_trailer (refusal_at place)
 
 pub record IsRefused (max_body max_trailer : ℕ) (wire body : List ℕ)
     (refusal : Refusal) : Type 0 where

@@ -5,8 +5,8 @@ use Rattle.std.proofs.lemmas.List.{append-nil}
 use Rattle.chunk_body.specs.Coded.{IsCoded}
 use Rattle.chunk_body.specs.Reading.{has_ended, Reading, step, advance, reads, decodes, is_refused}
 use Rattle.chunk_body.specs.Reading.{fresh}
-use Rattle.chunk_body.proofs.Places.{Front, IsWithin, IsOpen, IsWhole, Because, large, wrong, long}
-use Rattle.chunk_body.proofs.Places.{late}
+use Rattle.chunk_body.specs.Verdicts.{large, wrong, long, late}
+use Rattle.chunk_body.proofs.Places.{Front, IsWithin, IsOpen, IsWhole, Because}
 use Rattle.chunk_body.proofs.Complete.{run, run-append}
 use Rattle.chunk_body.proofs.Arriving.{front_goes, coded_front, coded_goes}
 use Rattle.chunk_body.proofs.Forward.{refused_stays}

@@ -310,22 +310,22 @@ same_name (Refused r) e = absurd (let no : true ≡ false = e in cc)
 because_to : (mb mt : ℕ) (p : Place) (before : List ℕ) (byte : ℕ) (r : Refusal) →
     has_ended p ≡ false → num.Because mb mt p before byte r →
     Because mb mt (where_of p) before byte r
-because_to mb mt p before byte r h (num.large e) = large e
-because_to mb mt p before byte r h (num.wrong f t e) =
+because_to mb mt p before byte r h (large e) = large e
+because_to mb mt p before byte r h (wrong f t e) =
     subst (Because mb mt (where_of p) before byte) (same_name p h)
     (wrong f (λ l. t (trailer_from mt before l)) e)
-because_to mb mt p before byte r h (num.long f g e) = long f g (line_to before byte e)
-because_to mb mt p before byte r h (num.late f e) = late f (trailer_to mt before e)
+because_to mb mt p before byte r h (long f g e) = long f g (line_to before byte e)
+because_to mb mt p before byte r h (late f e) = late f (trailer_to mt before e)
 
 because_from : (mb mt : ℕ) (w : Where) (p : Place) (before : List ℕ) (byte : ℕ) (r : Refusal) →
     has_ended p ≡ false → where_of p ≡ w → Because mb mt w before byte r →
     num.Because mb mt p before byte r
-because_from mb mt w p before byte r h s (large e) = num.large e
+because_from mb mt w p before byte r h s (large e) = large e
 because_from mb mt w p before byte r h s (wrong f t e) =
     subst (num.Because mb mt p before byte) (sym (same_name p h) ∙ ap refusal_of s)
-    (num.wrong f (λ l. t (trailer_to mt before l)) e)
-because_from mb mt w p before byte r h s (long f g e) = num.long f g (line_from before byte e)
-because_from mb mt w p before byte r h s (late f e) = num.late f (trailer_from mt before e)
+    (wrong f (λ l. t (trailer_to mt before l)) e)
+because_from mb mt w p before byte r h s (long f g e) = long f g (line_from before byte e)
+because_from mb mt w p before byte r h s (late f e) = late f (trailer_from mt before e)
 
 pub refused_to : (mb mt : ℕ) (wire body : List ℕ) (r : Refusal) → num.IsRefused mb mt wire body r →
     IsRefused mb mt wire body r

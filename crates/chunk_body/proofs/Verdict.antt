@@ -7,7 +7,8 @@ use Rattle.chunk_body.specs.Verdicts.{IsProperFront, IsWrong}
 use Rattle.chunk_body.specs.Reading.{line_bytes, Reading, step, gives, is_last_of_trailer, advance}
 use Rattle.chunk_body.specs.Reading.{reads, decodes, is_refused, fresh, has_ended}
 use Rattle.chunk_body.proofs.Places.{Front, IsTrailerLimit, IsWithin, IsOpen, IsWhole, IsRefused}
-use Rattle.chunk_body.proofs.Places.{Because, large, wrong, long, late}
+use Rattle.chunk_body.specs.Verdicts.{large, wrong, long, late}
+use Rattle.chunk_body.proofs.Places.{Because}
 use Rattle.chunk_body.proofs.Complete.{run, out, run-append}
 use Rattle.chunk_body.proofs.Arriving.{front_goes}
 use Rattle.chunk_body.proofs.Forward.{front_read, coded_read}

@@ -150,14 +150,36 @@ pub record IsTrailerLimit (max : ℕ) (before : List ℕ) : Type 0 where
   pub stands : Stands in_trailer before body
   pub full : length stands.is.0 + 1 ≡ max
 
-abbrev pub IsLimit : ℕ → ℕ → List ℕ → ℕ → Type 0
-IsLimit max_body max_trailer before byte = (length before + 1 ≡ max_body)
-    ⊎ (IsLineLimit before byte ⊎ IsTrailerLimit max_trailer before)
+-- The limits of lines and of trailer sections are said by where bytes stand. What follows holds
+-- however that is said.
+module _ (max_body : ℕ) (OfLine : List ℕ → ℕ → Type 0) (OfTrailer : List ℕ → Type 0) where
+  abbrev pub AnyLimit : List ℕ → ℕ → Type 0
+  AnyLimit before byte = (length before + 1 ≡ max_body) ⊎ (OfLine before byte ⊎ OfTrailer before)
 
--- no byte reaches a limit
-pub record IsWithin (max_body max_trailer : ℕ) (wire : List ℕ) : Type 0 where
-  pub none : (before after : List ℕ) (byte : ℕ) → wire ≡ before ++ (byte ∷ after) →
-      IsLimit max_body max_trailer before byte → ⊥
+  -- no byte reaches a limit
+  pub record Within (wire : List ℕ) : Type 0 where
+    pub none : (before after : List ℕ) (byte : ℕ) → wire ≡ before ++ (byte ∷ after) →
+        AnyLimit before byte → ⊥
+
+  -- Why the next byte is refused, which is as `bad` where it is wrong. The limit of the body goes
+  -- before all else, that of the trailer section before a wrong byte, and a wrong byte before the
+  -- limit of a line.
+  pub data Reason (max_trailer : ℕ) (bad : Refusal) (before : List ℕ) (byte : ℕ) : Refusal →
+      Type 0 where
+    large : length before + 1 ≡ max_body →
+        Reason max_trailer bad before byte (BodyTooLarge max_body)
+    late : (length before + 1 ≡ max_body → ⊥) → OfTrailer before →
+        Reason max_trailer bad before byte (TrailerTooLarge max_trailer)
+    wrong : (length before + 1 ≡ max_body → ⊥) → (OfTrailer before → ⊥) →
+        IsWrong (before ++ byte ∷ []) → Reason max_trailer bad before byte bad
+    long : (length before + 1 ≡ max_body → ⊥) → (IsWrong (before ++ byte ∷ []) → ⊥) →
+        OfLine before byte → Reason max_trailer bad before byte ChunkLineLong
+
+abbrev pub IsLimit : ℕ → ℕ → List ℕ → ℕ → Type 0
+IsLimit max_body max_trailer = AnyLimit max_body IsLineLimit (IsTrailerLimit max_trailer)
+
+abbrev pub IsWithin : ℕ → ℕ → List ℕ → Type 0
+IsWithin max_body max_trailer = Within max_body IsLineLimit (IsTrailerLimit max_trailer)
 
 -- A body that is not all there: a proper front of a coded body, in which no byte reaches a limit.
 -- The body is the data so far.
@@ -172,19 +194,9 @@ pub record IsWhole (max_body max_trailer : ℕ) (wire body : List ℕ) : Type 0 
   pub coded : IsCoded wire body
   pub within : IsWithin max_body max_trailer wire
 
--- Why the next byte is refused. The limit of the body goes before all else, that of the trailer
--- section before a wrong byte, and a wrong byte before the limit of a line.
-pub data Because (max_body max_trailer : ℕ) (place : Where) (before : List ℕ) (byte : ℕ) : Refusal →
-    Type 0 where
-  large : length before + 1 ≡ max_body → Because max_body max_trailer place before byte
-      (BodyTooLarge max_body)
-  late : (length before + 1 ≡ max_body → ⊥) → IsTrailerLimit max_trailer before →
-      Because max_body max_trailer place before byte (TrailerTooLarge max_trailer)
-  wrong : (length before + 1 ≡ max_body → ⊥) → (IsTrailerLimit max_trailer before → ⊥) →
-      IsWrong (before ++ byte ∷ []) → Because max_body max_trailer place before byte
-      (refusal_of place)
-  long : (length before + 1 ≡ max_body → ⊥) → (IsWrong (before ++ byte ∷ []) → ⊥) →
-      IsLineLimit before byte → Because max_body max_trailer place before byte ChunkLineLong
+abbrev pub Because : ℕ → ℕ → Where → List ℕ → ℕ → Refusal → Type 0
+Because max_body max_trailer place =
+    Reason max_body IsLineLimit (IsTrailerLimit max_trailer) max_trailer (refusal_of place)
 
 -- A byte is refused: those before it are a body that is not all there, with this data.
 pub record IsRefused (max_body max_trailer : ℕ) (wire body : List ℕ)
