@@ -7,9 +7,7 @@ use Rattle.byte_tables.specs.declared.refusal.Refusal.{Refusal}
 use Rattle.chunk_body.specs.Verdicts.{IsWhole, IsRefused}
 use Rattle.chunk_body.specs.Bodies.{Body, whole, wrong, partial, body_at, coded, IsFront, IsSettled}
 use Rattle.chunk_body.specs.Bodies.{LiesWithin}
-use Rattle.std.specs.Prelude.{None}
-use Rattle.chunk_body.specs.Answers.{lasting, lasting_at}
-use Rattle.chunk_body.specs.Reading.{Reads, Reading, advance, reads, decodes, is_refused, has_ended}
+use Rattle.chunk_body.specs.Reading.{Reading, advance, reads, decodes, is_refused, has_ended}
 use Rattle.chunk_body.specs.Reading.{fresh}
 use Rattle.chunk_body.proofs.Choices.{either}
 use Rattle.chunk_body.proofs.Runs.{reads-append, decodes-append, ended_stays, ended_gives, counted}

@@ -1,15 +1,14 @@
 -- Where bytes stand and the verdicts on them, as in specs/Verdicts.antt, by the places of the code,
 -- which have numbers.
-use Rattle.std.specs.Prelude.{◌≡◌, ◌<◌, ◌+◌, ◌⊎◌, ℕ, false, List, [], ◌∷◌, ◌++◌, length}
+use Rattle.std.specs.Prelude.{◌≡◌, ◌<◌, ◌+◌, ℕ, false, List, [], ◌∷◌, ◌++◌, length}
 use Rattle.std.specs.List.{AllByRecursion}
 use Rattle.chunk_body.specs.Coded.{Chunk, IsChunk, text, joined, AreDigits, IsTrailer, IsCoded}
 use Rattle.chunk_body.specs.Verdicts.{InBlanks, InExtension, InLineEnd, InData, BehindLast}
 use Rattle.chunk_body.specs.Verdicts.{IsOpenTrailer, IsProperFront, AnyLimit, Within, Reason}
 use Rattle.byte_tables.specs.declared.refusal.Refusal.{Refusal}
-use Rattle.byte_tables.specs.declared.refusal.Refusal.TheVariants.{BodyTooLarge, ChunkSize}
+use Rattle.byte_tables.specs.declared.refusal.Refusal.TheVariants.{ChunkSize}
 use Rattle.byte_tables.specs.declared.refusal.Refusal.TheVariants.{ChunkExtension, ChunkLineEnd}
-use Rattle.byte_tables.specs.declared.refusal.Refusal.TheVariants.{ChunkLineLong, ChunkEnd}
-use Rattle.byte_tables.specs.declared.refusal.Refusal.TheVariants.{TrailerTooLarge}
+use Rattle.byte_tables.specs.declared.refusal.Refusal.TheVariants.{ChunkEnd}
 use Rattle.chunk_body.specs.Reading.{mark_step, line_bytes, has_ended}
 use Rattle.chunk_body.specs.declared.place.Place.{Place}
 use Rattle.chunk_body.specs.declared.place.Place.TheVariants.{LineStart, Digits, Blanks, Extension}

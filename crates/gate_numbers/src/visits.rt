@@ -1,5 +1,5 @@
 //! A gate whose state says which ends have had a turn.
-ghost use Rattle.std.specs.Prelude.{◌≡◌, ◌≤◌, ◌++◌, ◌∷◌, [], false, IfSome, IfNone};
+ghost use Rattle.std.specs.Prelude.{◌≡◌, ◌++◌, ◌∷◌, [], false, IfSome, IfNone};
 ghost use mathlib.Core.List.{IsPrefix};
 ghost use Rattle.turn_gate.specs.Ends.{refused_once, MakesTurn};
 ghost use Rattle.gate_numbers.specs.Visits.{has_any};

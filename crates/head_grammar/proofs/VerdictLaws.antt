@@ -1,12 +1,11 @@
 -- What holds of each verdict.
-use Rattle.std.proofs.Common.{ℕ, List, [], ◌∷◌, length, refl}
+use Rattle.std.proofs.Common.{ℕ, List, [], ◌∷◌, refl}
 use Rattle.std.specs.Prelude.{Result, Ok, Err}
 use Rattle.byte_tables.specs.declared.refusal.Refusal.{Refusal}
 use Rattle.head_grammar.specs.FieldLines.{fields_of}
 use Rattle.head_grammar.specs.Framings.{framing_of}
-use Rattle.head_grammar.specs.Lines.{head_lines}
 use Rattle.head_grammar.specs.RequestLines.{request_line}
-use Rattle.head_grammar.specs.Verdict.{HasSize, by_framing, by_fields, by_line, verdict_of, verdict}
+use Rattle.head_grammar.specs.Verdict.{HasSize, by_framing, by_fields, by_line, verdict_of}
 use Rattle.head_grammar.specs.declared.types.Field.{Field}
 use Rattle.head_grammar.specs.declared.types.Framing.{Framing}
 use Rattle.head_grammar.specs.Heads.{RequestLine}

@@ -1,6 +1,6 @@
 //! Files by name.
 ghost use Rattle.std.specs.Prelude.{◌≡◌, ◌≤◌, ◌+◌, ℕ, Bool, IsTrue, List, length, take, drop};
-ghost use Rattle.std.specs.Prelude.{Option, None, Some, OnOk, IfOk, IfSome, IsSomeAnd, MatchOption};
+ghost use Rattle.std.specs.Prelude.{Option, None, OnOk, IfOk, IfSome, IsSomeAnd, MatchOption};
 ghost use Rattle.outside.specs.Causes.{HasCause, added};
 ghost use Rattle.outside.specs.Tree.{content_of, Sizes};
 

@@ -1,8 +1,8 @@
 -- What stands between two places of a spill, and of a whole buffer.
-use Rattle.std.proofs.Common.{◌≡◌, ◌≤◌, ◌<◌, ◌+◌, ◌-◌, ℕ, Bool, true, false, IsTrue, List, [], ◌++◌, length, take, drop, refl, sym, ap, ◌∙◌, subst, arith}
-use Rattle.std.specs.Prelude.{min, replicate, Result, Ok, Err, OnErr}
+use Rattle.std.proofs.Common.{◌≡◌, ◌≤◌, ◌<◌, ◌+◌, ◌-◌, ℕ, Bool, true, false, IsTrue, List, [], ◌++◌, length, take, drop, refl, sym, ap, ◌∙◌, arith}
+use Rattle.std.specs.Prelude.{replicate, Result, Ok, Err, OnErr}
 use Rattle.std.proofs.lemmas.Bool.{false≢true}
-use Rattle.std.proofs.lemmas.List.{append-nil, append_assoc, length-take, length-take-le, length-drop, length-replicate, length-append, take-append-le, take-take, take_all, drop-drop, drop-append-le, drop-replicate, drop-take, drop_all}
+use Rattle.std.proofs.lemmas.List.{append-nil, length-take, length-take-le, length-drop, length-replicate, length-append, take-take, take_all, drop-append-le, drop-take, drop_all}
 use Rattle.spill_buffer.specs.Buffer.{stored, IsToldAs}
 
 pub told_as : {tells : Bool} {bytes expected : List ℕ} → bytes ≡ expected → IsToldAs tells bytes expected

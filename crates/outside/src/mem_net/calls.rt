@@ -1,5 +1,5 @@
 //! The calls of a net in memory.
-ghost use Rattle.std.specs.Prelude.{◌≡◌, ◌<◌, ◌≤◌, ◌-◌, ◌++◌, ◌∷◌, [], ◌↔◌, ◌&&◌, ℕ, true, is_some};
+ghost use Rattle.std.specs.Prelude.{◌≡◌, ◌<◌, ◌≤◌, ◌-◌, ◌++◌, ◌∷◌, [], ◌↔◌, ◌&&◌, true, is_some};
 ghost use Rattle.std.specs.Prelude.{IsTrue, IsErr, IsErrOf, IfOk, OnOk, OnErr, IfSome, None, Some};
 ghost use Rattle.std.specs.Prelude.{All, length, map};
 ghost use Rattle.outside.specs.Causes.{HasCause, faults_after, raised};
@@ -9,7 +9,6 @@ ghost use Rattle.outside.specs.MemNet.{TurnByPlan, AcceptsByPlan, IsReady, first
 ghost use Rattle.outside.specs.MemNet.{found_after};
 ghost use Rattle.outside.specs.Moments.{moment_at};
 ghost use Rattle.outside.specs.Net.{Polls, Accepts, AcceptCause, TakesKey, asked_of, last_moment};
-ghost use Rattle.outside.specs.Net.{moment_after};
 
 use super::MemNet;
 use super::told::{Addresses, FirstMoment, Latest, OneMore, Seen};

@@ -1,6 +1,6 @@
-use Rattle.std.proofs.Common.{◌≡◌, ◌≤◌, ◌<◌, ◌+◌, ◌-◌, ℕ, length, take, drop, ◌++◌, [], refl, sym, ap, ◌∙◌, arith}
+use Rattle.std.proofs.Common.{◌≡◌, ◌<◌, ◌+◌, ◌-◌, length, take, drop, ◌++◌, [], refl, sym, ap, ◌∙◌, arith}
 use Rattle.std.proofs.lemmas.List.{length-append, length-drop, append-nil, take_all}
-use Rattle.spill_buffer.specs.Buffer.{IsToldAs, stored}
+use Rattle.spill_buffer.specs.Buffer.{stored}
 use Rattle.spill_buffer.proofs.Storing.{follows, moves, grown, length_whole, some_spilled, none_spilled, only_memory, told_as, none_stored, on_err}
 use Rattle.spill_buffer.proofs.buffer.OverflowBuffer.append.Goals as goal
 

@@ -1,7 +1,7 @@
-use Rattle.std.proofs.Common.{◌≡◌, ◌≤◌, ◌<◌, ◌+◌, ◌-◌, ℕ, length, take, drop, ◌++◌, [], refl, sym, ap, ◌∙◌, arith}
+use Rattle.std.proofs.Common.{◌≡◌, ◌≤◌, ◌<◌, ◌-◌, length, take, drop, refl, sym, ap, ◌∙◌, arith}
 use Rattle.std.specs.Prelude.{min}
-use Rattle.std.proofs.lemmas.List.{length-take, length-drop, take-append-le}
-use Rattle.spill_buffer.specs.Buffer.{IsToldAs, stored}
+use Rattle.std.proofs.lemmas.List.{length-take, take-append-le}
+use Rattle.spill_buffer.specs.Buffer.{stored}
 use Rattle.spill_buffer.proofs.Storing.{front_stored, some_spilled, none_spilled, only_stored}
 use Rattle.spill_buffer.proofs.buffer.OverflowBuffer.front.Goals as goal
 

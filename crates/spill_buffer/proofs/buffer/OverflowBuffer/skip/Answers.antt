@@ -1,6 +1,6 @@
-use Rattle.std.proofs.Common.{◌≡◌, ◌≤◌, ◌<◌, ◌+◌, ◌-◌, ℕ, length, take, drop, ◌++◌, [], sym, ap, ◌∙◌, arith}
+use Rattle.std.proofs.Common.{◌+◌, ◌-◌, drop, ◌++◌, sym, ap, ◌∙◌}
 use Rattle.std.proofs.lemmas.List.{append-nil, drop-drop}
-use Rattle.spill_buffer.specs.Buffer.{IsToldAs, stored}
+use Rattle.spill_buffer.specs.Buffer.{stored}
 use Rattle.spill_buffer.proofs.Storing.{told_as, only_memory, none_stored}
 use Rattle.spill_buffer.proofs.buffer.OverflowBuffer.skip.Goals as goal
 
