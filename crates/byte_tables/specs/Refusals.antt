@@ -2,7 +2,14 @@
 -- them.
 use Rattle.std.specs.Prelude.{ℕ, List, ◌++◌, codes, decimal}
 use Rattle.byte_tables.specs.declared.refusal.Refusal.{Refusal}
-use Rattle.byte_tables.specs.declared.refusal.Refusal.TheVariants.{RequestLine, Method, Version, Target, FieldLine, FieldValue, CodingOnOld, CodingUnknown, Length, BodyTooLarge, HeadTooLarge, ChunkSize, ChunkExtension, ChunkLineEnd, ChunkLineLong, ChunkEnd, TrailerTooLarge}
+use Rattle.byte_tables.specs.declared.refusal.Refusal.TheVariants.{RequestLine, Method, Version}
+use Rattle.byte_tables.specs.declared.refusal.Refusal.TheVariants.{Target, FieldLine, FieldValue}
+use Rattle.byte_tables.specs.declared.refusal.Refusal.TheVariants.{CodingOnOld, CodingUnknown}
+use Rattle.byte_tables.specs.declared.refusal.Refusal.TheVariants.{Length, BodyTooLarge}
+use Rattle.byte_tables.specs.declared.refusal.Refusal.TheVariants.{HeadTooLarge, ChunkSize}
+use Rattle.byte_tables.specs.declared.refusal.Refusal.TheVariants.{ChunkExtension, ChunkLineEnd}
+use Rattle.byte_tables.specs.declared.refusal.Refusal.TheVariants.{ChunkLineLong, ChunkEnd}
+use Rattle.byte_tables.specs.declared.refusal.Refusal.TheVariants.{TrailerTooLarge}
 
 abbrev pub code_of : Refusal → ℕ
 code_of RequestLine = 400

@@ -14,7 +14,8 @@ use Rattle.request_stream.specs.Units.{closing, units}
 use Rattle.request_stream.specs.declared.types.Limits.{Limits}
 use Rattle.channel.specs.Acting.{has_counted, is_working, output_length, unit_count}
 use Rattle.channel.specs.Agreement.{Agrees, Known}
-use Rattle.channel.specs.Histories.{LeftEntry, LeftPast, RightPast, left_past, left_turn, right_past}
+use Rattle.channel.specs.Histories.{LeftEntry, LeftPast, RightPast, left_past, left_turn}
+use Rattle.channel.specs.Histories.{right_past}
 use Rattle.channel.specs.Showing.{shown_of}
 use Rattle.channel.specs.State.{State, state_of}
 pub use Rattle.channel.specs.Owed.{loses_units}

@@ -1,9 +1,11 @@
 -- The parts of a moment are a valid date, with that many seconds, so httpdate writes them.
-use Rattle.std.proofs.Common.{◌≡◌, ◌≤◌, ◌<◌, ◌+◌, ◌-◌, ◌*◌, ◌/◌, ◌%◌, ℕ, zero, suc, true, false, Bool, refl, ap, sym, ◌∙◌, cond, arith, append_assoc}
+use Rattle.std.proofs.Common.{◌≡◌, ◌≤◌, ◌<◌, ◌+◌, ◌-◌, ◌*◌, ◌/◌, ◌%◌, ℕ, zero, suc, true, false}
+use Rattle.std.proofs.Common.{Bool, refl, ap, sym, ◌∙◌, cond, arith, append_assoc}
 use Rattle.std.specs.Prelude.{nat_lt}
 use Rattle.std.proofs.lemmas.Bool.{ltb-true, ltb-false}
 use Rattle.httpdate.specs.declared.date.HttpDate.{HttpDate}
-use Rattle.httpdate.specs.Calendar.{days_in_year, days_in_month, days_of_years, days_of_months, weekday, days_from_civil}
+use Rattle.httpdate.specs.Calendar.{days_in_year, days_in_month, days_of_years, days_of_months}
+use Rattle.httpdate.specs.Calendar.{weekday, days_from_civil}
 use Rattle.httpdate.specs.Date.{unix_secs, date_text}
 use Rattle.httpdate.specs.Text.{imf_fixdate as text_of}
 use Rattle.httpdate.specs.declared.parts.Parts.{Parts}

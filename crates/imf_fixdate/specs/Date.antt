@@ -1,5 +1,6 @@
 -- The date of a moment in Unix seconds, as IMF-fixdate (RFC 9110, section 5.6.7).
-use Rattle.std.specs.Prelude.{ℕ, zero, suc, ◌+◌, ◌-◌, ◌/◌, ◌%◌, List, ◌++◌, codes, if◌then◌else◌, nat_lt}
+use Rattle.std.specs.Prelude.{ℕ, zero, suc, ◌+◌, ◌-◌, ◌/◌, ◌%◌, List, ◌++◌, codes, if◌then◌else◌}
+use Rattle.std.specs.Prelude.{nat_lt}
 use Rattle.httpdate.specs.Calendar.{days_in_year, days_in_month, weekday}
 use Rattle.httpdate.specs.Text.{day_name, month_name, two_digits, four_digits}
 

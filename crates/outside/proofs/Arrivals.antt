@@ -1,5 +1,6 @@
 -- Bytes that came are a prefix of the input, and stay one where more of it come.
-use Rattle.std.proofs.Common.{◌≡◌, ◌≤◌, ◌+◌, ◌++◌, ℕ, List, [], ◌∷◌, length, take, drop, map, ap, sym, ◌∙◌, arith, length-append, length-drop, refl}
+use Rattle.std.proofs.Common.{◌≡◌, ◌≤◌, ◌+◌, ◌++◌, ℕ, List, [], ◌∷◌, length, take, drop, map, ap}
+use Rattle.std.proofs.Common.{sym, ◌∙◌, arith, length-append, length-drop, refl}
 use Rattle.std.proofs.lemmas.List.{map-append, length-map, length-take}
 use Rattle.std.proofs.Math.Seq.{take-add}
 use Rattle.outside.specs.Link.{stamped}

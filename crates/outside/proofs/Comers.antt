@@ -1,5 +1,7 @@
 -- The comers of a net in memory: who is due, and what stays where one is given.
-use Rattle.std.proofs.Common.{◌≡◌, ◌<◌, ◌≤◌, ◌+◌, ◌++◌, ◌∷◌, [], ℕ, suc, inl, inr, List, length, map, take, drop, None, false, get_or, nat_lt, arith, refl, sym, ◌∙◌, ap}
+use Rattle.std.proofs.Common.{◌≡◌, ◌<◌, ◌≤◌, ◌+◌, ◌++◌, ◌∷◌, [], ℕ, suc, inl, inr, List, length}
+use Rattle.std.proofs.Common.{map, take, drop, None, false, get_or, nat_lt, arith, refl, sym, ◌∙◌}
+use Rattle.std.proofs.Common.{ap}
 use Rattle.std.proofs.Math.Logic.{∥∥₁_map}
 use Rattle.std.specs.List.{All, Contains, remove, position_or_len, take-map, drop-map}
 use Rattle.std.specs.Prelude.{cond, Some}

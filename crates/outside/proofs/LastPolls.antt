@@ -1,5 +1,6 @@
 -- The polls of a net in memory: the first and the last that are told, and when it tells to stop.
-use Rattle.std.proofs.Common.{◌≡◌, ◌≤◌, ℕ, List, length, true, None, Some, refl, ap, sym, ◌∙◌, subst, arith, is_none}
+use Rattle.std.proofs.Common.{◌≡◌, ◌≤◌, ℕ, List, length, true, None, Some, refl, ap, sym, ◌∙◌}
+use Rattle.std.proofs.Common.{subst, arith, is_none}
 use Rattle.std.specs.Prelude.{Option, unwrap_or}
 use Rattle.std.specs.Option.{ForSome, IsSomeAnd}
 use Rattle.outside.specs.Memory.{is_listed}

@@ -1,5 +1,6 @@
 -- Numbers that stand in a list.
-use Rattle.std.proofs.Common.{◌≡◌, ◌<◌, ◌-◌, ◌||◌, ℕ, zero, suc, Bool, true, false, List, [], ◌∷◌, length, refl, arith, nat_eq, slice_get, min, get_or, eq-eqb}
+use Rattle.std.proofs.Common.{◌≡◌, ◌<◌, ◌-◌, ◌||◌, ℕ, zero, suc, Bool, true, false, List, [], ◌∷◌}
+use Rattle.std.proofs.Common.{length, refl, arith, nat_eq, slice_get, min, get_or, eq-eqb}
 use Rattle.outside.specs.Memory.{is_listed}
 use Rattle.outside.specs.MemLink.{within}
 use Rattle.outside.specs.Moments.{moment_at}

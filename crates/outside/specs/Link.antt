@@ -1,5 +1,6 @@
 -- What one connection tells, and what its calls do to it.
-use Rattle.std.specs.Prelude.{◌≡◌, ◌≤◌, ℕ, Bool, true, false, nat_lt, List, [], ◌++◌, length, take, map}
+use Rattle.std.specs.Prelude.{◌≡◌, ◌≤◌, ℕ, Bool, true, false, nat_lt, List, [], ◌++◌, length, take}
+use Rattle.std.specs.Prelude.{map}
 use Rattle.outside.specs.Causes.{Rose, raised}
 use Rattle.outside.specs.declared.types.Recv.{Recv}
 use Rattle.outside.specs.declared.types.Recv.TheVariants as got

@@ -1,5 +1,7 @@
 -- A link in memory.
-use Rattle.std.specs.Prelude.{◌≡◌, ◌<◌, ◌≤◌, ◌+◌, ◌-◌, ◌==◌, ℕ, zero, suc, Bool, false, IsTrue, min, length, take, map, Option, None, Some, if◌then◌else◌, MatchBool, slice_get}
+use Rattle.std.specs.Prelude.{◌≡◌, ◌<◌, ◌≤◌, ◌+◌, ◌-◌, ◌==◌, ℕ, zero, suc, Bool, false, IsTrue, min}
+use Rattle.std.specs.Prelude.{length, take, map, Option, None, Some, if◌then◌else◌, MatchBool}
+use Rattle.std.specs.Prelude.{slice_get}
 use Rattle.outside.specs.Causes.{raised}
 use Rattle.outside.specs.Link.{LinkState}
 use Rattle.outside.specs.Memory.{is_listed}

@@ -1,5 +1,8 @@
 -- A net in memory.
-use Rattle.std.specs.Prelude.{◌≡◌, ◌≤◌, ◌<◌, ◌+◌, ◌++◌, ◌&&◌, ◌==◌, ℕ, Bool, IsTrue, false, is_none, is_some, List, [], length, map, position, remove, All, Contains, IsPermutation, Option, None, Some, slice_get, nat_lt, nat_le, Result, Ok, Err}
+use Rattle.std.specs.Prelude.{◌≡◌, ◌≤◌, ◌<◌, ◌+◌, ◌++◌, ◌&&◌, ◌==◌, ℕ, Bool, IsTrue, false, is_none}
+use Rattle.std.specs.Prelude.{is_some, List, [], length, map, position, remove, All, Contains}
+use Rattle.std.specs.Prelude.{IsPermutation, Option, None, Some, slice_get, nat_lt, nat_le, Result}
+use Rattle.std.specs.Prelude.{Ok, Err}
 use Rattle.std.specs.Option.{ForSome, IsSomeAnd}
 use Rattle.outside.specs.Causes.{raised}
 use Rattle.outside.specs.Link.{opened}

@@ -1,5 +1,6 @@
 -- Sinks and spills in memory, and which calls of the kinds in memory fail.
-use Rattle.std.specs.Prelude.{◌≡◌, ◌⊎◌, ℕ, Bool, IsTrue, List, [], unwrap_or, slice_get, nat_eq, Result, OnErr, OnOk, IsErr}
+use Rattle.std.specs.Prelude.{◌≡◌, ◌⊎◌, ℕ, Bool, IsTrue, List, [], unwrap_or, slice_get, nat_eq}
+use Rattle.std.specs.Prelude.{Result, OnErr, OnOk, IsErr}
 use Rattle.std.specs.List.{list_any}
 use Rattle.outside.specs.Causes.{raised}
 

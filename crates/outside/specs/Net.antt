@@ -1,5 +1,6 @@
 -- What a net tells, and what its calls do to it.
-use Rattle.std.specs.Prelude.{◌≡◌, ◌≤◌, ◌+◌, ℕ, Bool, IsTrue, List, [], ◌∷◌, ◌++◌, Option, None, Some, unwrap_or, Result, Ok, Err}
+use Rattle.std.specs.Prelude.{◌≡◌, ◌≤◌, ◌+◌, ℕ, Bool, IsTrue, List, [], ◌∷◌, ◌++◌, Option, None}
+use Rattle.std.specs.Prelude.{Some, unwrap_or, Result, Ok, Err}
 use Rattle.outside.specs.Causes.{Rose, raised}
 use Rattle.outside.specs.declared.types.Failed.{Failed}
 use Rattle.outside.specs.declared.types.NetFault.{NetFault}

@@ -1,5 +1,6 @@
 -- Files by name.
-use Rattle.std.specs.Prelude.{ℕ, List, map, filter, find, nat_eq, Option, None, Some, Result, Ok, Err}
+use Rattle.std.specs.Prelude.{ℕ, List, map, filter, find, nat_eq, Option, None, Some, Result, Ok}
+use Rattle.std.specs.Prelude.{Err}
 use Rattle.std.specs.Option.{option_map}
 use Rattle.std.specs.Cmp.Lexicographic.{pointwise}
 use Rattle.outside.specs.declared.types.Failed.{Failed}

@@ -1,8 +1,11 @@
 -- What stands between two places of a spill, and of a whole buffer.
-use Rattle.std.proofs.Common.{◌≡◌, ◌≤◌, ◌<◌, ◌+◌, ◌-◌, ℕ, Bool, true, false, IsTrue, List, [], ◌++◌, length, take, drop, refl, sym, ap, ◌∙◌, arith}
+use Rattle.std.proofs.Common.{◌≡◌, ◌≤◌, ◌<◌, ◌+◌, ◌-◌, ℕ, Bool, true, false, IsTrue, List, [], ◌++◌}
+use Rattle.std.proofs.Common.{length, take, drop, refl, sym, ap, ◌∙◌, arith}
 use Rattle.std.specs.Prelude.{replicate, Result, Ok, Err, OnErr}
 use Rattle.std.proofs.lemmas.Bool.{false≢true}
-use Rattle.std.proofs.lemmas.List.{append-nil, length-take, length-take-le, length-drop, length-replicate, length-append, take-take, take_all, drop-append-le, drop-take, drop_all}
+use Rattle.std.proofs.lemmas.List.{append-nil, length-take, length-take-le, length-drop}
+use Rattle.std.proofs.lemmas.List.{length-replicate, length-append, take-take, take_all}
+use Rattle.std.proofs.lemmas.List.{drop-append-le, drop-take, drop_all}
 use Rattle.spill_buffer.specs.Buffer.{stored, IsToldAs}
 
 pub told_as : {tells : Bool} {bytes expected : List ℕ} → bytes ≡ expected → IsToldAs tells bytes expected

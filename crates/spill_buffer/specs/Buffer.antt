@@ -1,5 +1,6 @@
 -- What contracts see of a buffer over a spill.
-use Rattle.std.specs.Prelude.{◌≡◌, ◌≤◌, ◌<◌, ◌-◌, ℕ, Bool, true, false, IsTrue, List, [], length, take, drop, replicate, Result, Ok, Err, refl}
+use Rattle.std.specs.Prelude.{◌≡◌, ◌≤◌, ◌<◌, ◌-◌, ℕ, Bool, true, false, IsTrue, List, [], length}
+use Rattle.std.specs.Prelude.{take, drop, replicate, Result, Ok, Err, refl}
 use Rattle.std.specs.Coded.{Coded, code_by, coded×, coded_ℕ, coded_list}
 use Rattle.outside.specs.Causes.{Rose}
 use Rattle.spill_buffer.specs.declared.fault.BufferFault.{BufferFault}

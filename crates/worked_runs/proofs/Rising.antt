@@ -1,5 +1,6 @@
 -- Lists of moments that never fall.
-use Rattle.std.proofs.Common.{◌≡◌, ◌≤◌, ◌-◌, ℕ, zero, suc, List, [], ◌∷◌, length, ap, sym, subst, arith, min, get_or}
+use Rattle.std.proofs.Common.{◌≡◌, ◌≤◌, ◌-◌, ℕ, zero, suc, List, [], ◌∷◌, length, ap, sym, subst}
+use Rattle.std.proofs.Common.{arith, min, get_or}
 use Rattle.outside.specs.Moments.{NeverFalls, moment_at}
 
 first_of : (x : ℕ) (rest : List ℕ) → moment_at (x ∷ rest) 0 ≡ x

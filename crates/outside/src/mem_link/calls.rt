@@ -4,7 +4,8 @@ ghost use Rattle.std.specs.Prelude.{vec_capacity, slice_get};
 ghost use Rattle.outside.specs.Causes.{raised};
 ghost use Rattle.outside.specs.Link.{Receives, Sends, GotWithin, TookWithin, RecvCause, SendCause};
 ghost use Rattle.outside.specs.Link.{stamped};
-ghost use Rattle.outside.specs.MemLink.{within, recv_answer, reads_after, recv_faults, send_faults, SendsByPlan};
+ghost use Rattle.outside.specs.MemLink.{within, recv_answer, reads_after, recv_faults, send_faults};
+ghost use Rattle.outside.specs.MemLink.{SendsByPlan};
 ghost use Rattle.outside.specs.Memory.{is_listed};
 
 use super::MemLink;

@@ -1,4 +1,5 @@
-use Rattle.std.proofs.Common.{◌≢◌, ◌<◌, ◌∙◌, length, refl, false, arith, below_more, get_or-set_other, get_or-set_same}
+use Rattle.std.proofs.Common.{◌≢◌, ◌<◌, ◌∙◌, length, refl, false, arith, below_more}
+use Rattle.std.proofs.Common.{get_or-set_other, get_or-set_same}
 use Rattle.std.proofs.Math.Seq.{map-set_same}
 use Rattle.outside.specs.Net.{asked_of}
 use Rattle.outside.specs.declared.types.Want.{Want}

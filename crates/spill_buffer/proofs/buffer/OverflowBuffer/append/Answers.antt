@@ -1,7 +1,9 @@
-use Rattle.std.proofs.Common.{◌≡◌, ◌<◌, ◌+◌, ◌-◌, length, take, drop, ◌++◌, [], refl, sym, ap, ◌∙◌, arith}
+use Rattle.std.proofs.Common.{◌≡◌, ◌<◌, ◌+◌, ◌-◌, length, take, drop, ◌++◌, [], refl, sym, ap, ◌∙◌}
+use Rattle.std.proofs.Common.{arith}
 use Rattle.std.proofs.lemmas.List.{length-append, length-drop, append-nil, take_all}
 use Rattle.spill_buffer.specs.Buffer.{stored}
-use Rattle.spill_buffer.proofs.Storing.{follows, moves, grown, length_whole, some_spilled, none_spilled, only_memory, told_as, none_stored, on_err}
+use Rattle.spill_buffer.proofs.Storing.{follows, moves, grown, length_whole, some_spilled}
+use Rattle.spill_buffer.proofs.Storing.{none_spilled, only_memory, told_as, none_stored, on_err}
 use Rattle.spill_buffer.proofs.buffer.OverflowBuffer.append.Goals as goal
 
 pub returns-then-self-clause-appended : goal.returns-then-self-clause-appended
