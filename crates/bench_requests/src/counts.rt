@@ -1,5 +1,5 @@
 //! What a stream gave.
-use crate::shapes::Shape;
+use bench_shapes::Job;
 use outside::{MemSpill, MemSpills};
 use request_stream::{Limits, Stream, StreamFault, Unit};
 use std::alloc::Global;
@@ -40,24 +40,14 @@ fn count(counts: &mut Counts, units: Vec<Unit<MemSpill>>) {
     }
 }
 
-/// Feeds requests of a shape in pieces of a size, and counts what comes out. So many blocks are fed;
-/// a block has as many whole requests as fill a piece.
-pub fn read(
-    alloc: Global,
-    shape: Shape,
-    piece: usize,
-    blocks: u64,
-) -> Result<Counts, StreamFault<MemSpill>> {
-    let request = shape.request(alloc)?;
-    let mut block = Vec::new(alloc);
-    for _ in 0..(piece / request.len().max(1)).saturating_add(1) {
-        block.extend_from_slice(&request)?;
-    }
+/// Feeds what a job is of, and counts what comes out.
+pub fn read(alloc: Global, job: &Job) -> Result<Counts, StreamFault<MemSpill>> {
+    let block = job.block(alloc)?;
     let mut spills = MemSpills::new(alloc, Vec::new(alloc));
     let mut stream = Stream::new(alloc, LIMITS);
     let mut counts = NONE;
-    for _ in 0..blocks {
-        for part in block.chunks(piece.max(1)) {
+    for _ in 0..job.blocks {
+        for part in block.chunks(job.piece.max(1)) {
             let units = stream.feed(alloc, 0, part, &mut spills)?;
             count(&mut counts, units);
             counts.bytes = counts.bytes.wrapping_add(part.len() as u64);

@@ -7,11 +7,13 @@ use std::alloc::{AllocError, Global};
 pub enum Shape {
     /// A GET of 56 bytes.
     Small,
+    /// A GET with a head of twelve fields.
+    Twelve,
     /// A GET with a head of 40 fields.
     Browser,
-    /// A body of a million bytes, by its length.
-    Fixed,
-    /// About as many bytes in so many chunks of a size, which is written in hexadecimal digits.
+    /// A body of so many bytes, by its length.
+    Fixed(usize),
+    /// About a million bytes in so many chunks of a size, which is written in hexadecimal digits.
     Chunked {
         chunks: u32,
         size: usize,
@@ -20,10 +22,12 @@ pub enum Shape {
 }
 
 /// Each shape with the word that names it.
-pub const SHAPES: [(&str, Shape); 6] = [
+pub const SHAPES: [(&str, Shape); 8] = [
     ("small", Shape::Small),
+    ("twelve", Shape::Twelve),
     ("browser", Shape::Browser),
-    ("fixed", Shape::Fixed),
+    ("fixed-64k", Shape::Fixed(65_536)),
+    ("fixed", Shape::Fixed(1_000_000)),
     (
         "chunks-1",
         Shape::Chunked {
@@ -52,7 +56,22 @@ pub const SHAPES: [(&str, Shape); 6] = [
 
 const SMALL: &[u8] = b"GET /ab HTTP/1.1\r\nHost: www.example.org\r\nAccept: */*\r\n\r\n";
 
-const FIXED: &[u8] = b"POST / HTTP/1.1\r\nHost: a\r\nContent-Length: 1000000\r\n\r\n";
+const TWELVE: [&str; 12] = [
+    "Host: localhost:8080",
+    "User-Agent: Mozilla/5.0",
+    "Accept: text/html",
+    "Accept-Language: en",
+    "Accept-Encoding: gzip, deflate, br",
+    "Connection: keep-alive",
+    "Cookie: a=1; b=2",
+    "Cache-Control: max-age=0",
+    "Upgrade-Insecure-Requests: 1",
+    "Sec-Fetch-Mode: navigate",
+    "X_Trace: 7",
+    "DNT: 1",
+];
+
+const FIXED: &[u8] = b"POST / HTTP/1.1\r\nHost: a\r\nContent-Length: ";
 
 const CHUNKED: &[u8] = b"POST / HTTP/1.1\r\nHost: a\r\nTransfer-Encoding: chunked\r\n\r\n";
 
@@ -67,6 +86,24 @@ fn browser(alloc: Global) -> Result<Vec<u8>, AllocError> {
         text.extend_from_slice(b": text/html,application/xml;q=0.9\r\n")?;
     }
     text.extend_from_slice(b"\r\n")?;
+    Ok(text)
+}
+
+fn twelve(alloc: Global) -> Result<Vec<u8>, AllocError> {
+    let mut text = Vec::from_slice(alloc, b"GET / HTTP/1.1\r\n")?;
+    for line in TWELVE {
+        text.extend_from_slice(line.as_bytes())?;
+        text.extend_from_slice(b"\r\n")?;
+    }
+    text.extend_from_slice(b"\r\n")?;
+    Ok(text)
+}
+
+fn fixed(alloc: Global, size: usize) -> Result<Vec<u8>, AllocError> {
+    let mut text = Vec::from_slice(alloc, FIXED)?;
+    text.extend_from_slice(Buffer::new().format(size).as_bytes())?;
+    text.extend_from_slice(b"\r\n\r\n")?;
+    text.extend_from_slice(&vec![in alloc; b'a'; size]?)?;
     Ok(text)
 }
 
@@ -88,12 +125,9 @@ impl Shape {
     pub fn request(self, alloc: Global) -> Result<Vec<u8>, AllocError> {
         match self {
             Shape::Small => Vec::from_slice(alloc, SMALL),
+            Shape::Twelve => twelve(alloc),
             Shape::Browser => browser(alloc),
-            Shape::Fixed => {
-                let mut text = Vec::from_slice(alloc, FIXED)?;
-                text.extend_from_slice(&vec![in alloc; b'a'; 1_000_000]?)?;
-                Ok(text)
-            }
+            Shape::Fixed(size) => fixed(alloc, size),
             Shape::Chunked {
                 chunks,
                 size,
