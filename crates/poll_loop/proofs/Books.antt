@@ -100,8 +100,6 @@ module _ {L P : Type 0} (service : Service) (grounds : Grounds) where
         (service.owed entry.peer (state entry.link).arrivals) entry.end h.cause;
   }
 
-module _ {L P : Type 0} (service : Service) (broke : Type 0) where
-
 -- ---- counts
 
 pub spill_faults_append : {L : Type 0} (xs ys : List (Retired L)) →

@@ -195,15 +195,6 @@ module _ {L A S P R : Type 0} (seats : List (Seat L A S P R)) (asked : ℕ) (bef
       map asked_of gathers.nudge) (sym many) (drop-append_seam
       (map (λ seat. asked_of seat.want) seats) (map asked_of gathers.nudge))
 
-  pub as_long : asked ≤ length after
-  as_long =
-      let a = ap length asked_are in
-      let b = Rattle.poll_loop.proofs.Working.map_length asked_of after in
-      let c = Rattle.std.proofs.Common.length-append (map (λ seat. asked_of seat.want) seats)
-      (map asked_of gathers.nudge) in
-      let d = many in
-      omega (arith, a, b, c, d)
-
   pub nudged : (due : Bool) → list_any (λ seat. works seat.mark) seats ≡ due →
       Nudges due (drop asked after)
   nudged due is = nudges_as due gathers.nudge (drop asked after) (sym rest_are)
