@@ -14,8 +14,8 @@ use Rattle.request_stream.specs.Asks.{IsAdded, asks}
 use Rattle.request_stream.specs.Units.{Asked, closing, units}
 use Rattle.request_stream.specs.declared.types.Unit.{Unit as AUnit}
 use Rattle.spill_buffer.specs.Buffer.{Buffered, IsToldAs}
-use Rattle.channel.specs.Acting.{Skips, Touches, has_counted, length_of, output_length, spill_by}
-use Rattle.channel.specs.Acting.{unit_count}
+use Rattle.channel.specs.Acting.{Skips, Touches, has_counted, length_of, lent_of, output_length}
+use Rattle.channel.specs.Acting.{spill_by, unit_count}
 use Rattle.channel.specs.Views.{over_by}
 use Rattle.channel.specs.Agreement.{Agrees, KeepsBroken, Known, death_of}
 use Rattle.channel.specs.Histories.{LeftEntry, LeftPast, RightPast, left_acts, left_by, left_turn}
@@ -23,7 +23,8 @@ use Rattle.channel.specs.Sides.{Answers, IsIdle, KeepsSide, Side, TurnsLeft, is_
 use Rattle.channel.specs.Sides.{loses_units}
 use Rattle.channel.specs.declared.types.Cause.{Cause}
 use Rattle.channel.specs.declared.types.Cause.TheVariants as cause
-use Rattle.std.proofs.lemmas.List.{length-drop, length-take-le, take-take}
+use Rattle.std.proofs.lemmas.List.{length-drop, length-take, length-take-le, take-take, take_min}
+use Rattle.std.proofs.Math.Seq.{take-length}
 use Rattle.channel.specs.State.{State}
 use Rattle.channel.specs.declared.acts.LeftAct.{LeftAct}
 use Rattle.channel.specs.declared.acts.LeftAct.TheVariants.{Put, Drained, Killed, Buried}
@@ -484,6 +485,51 @@ drains_of known old_side new_side old mid new entry room count taken alive tells
     ∙ ap (λ n. take n skipped.0.bytes) (sym size))))
     skipped.4 is story arrivals (λ t. sent t ∙ ap (λ xs. old_side.link.sent ++ xs) same_bytes) ended
     touched
+
+-- what is lent is lent of an output that is there
+pub lent_some : {S : Type 0} (output : Option (Buffered S)) → 0 < length (lent_of output) →
+    (b : Buffered S) × (output ≡ Some b)
+lent_some None h = let no : ⊥ = omega (arith, h) in absurd no
+lent_some (Some b) h = (b, refl)
+
+-- a state whose output is asked for nothing
+pub untouched : {A R S : Type 0} (tells : Bool) (old : State A R S) (b : Buffered S) →
+    old.output ≡ Some b → Touches tells old old
+untouched tells old b had = record {
+  before = b;
+  after = b;
+  had = had;
+  bytes = record { size = refl; told = λ _. refl };
+  now = ap (λ (o : Option (Buffered _)). record old { output = o }) had;
+}
+
+-- the link took the first of the bytes that it was lent
+pub lends_of : {A R S : Type 0} (known : Known A R S) (old_side new_side : Side)
+    (old new : State A R S) (entry : LeftEntry S) (bytes : List ℕ) (taken : ℕ) →
+    old.dead ≡ None → new_side.tells ≡ old_side.tells → new_side.buried ≡ old_side.buried →
+    bytes ≡ lent_of old.output → Skips known.spill_tells taken old new → taken ≤ length bytes →
+    entry.value ≡ Drained (take taken bytes) ∷ [] → new_side.story ≡ old_side.story →
+    (IsTrue old_side.tells → new_side.link.arrivals ≡ old_side.link.arrivals) →
+    (IsTrue old_side.tells → new_side.link.sent ≡ old_side.link.sent ++ take taken bytes) →
+    ((IsTrue old_side.tells → old_side.ended ≡ old_side.link.ended) → IsTrue old_side.tells →
+    new_side.ended ≡ new_side.link.ended) →
+    (IsTrue old_side.tells → new_side.touched ≡ new_side.link.touched) →
+    LTurns known old_side new_side old new entry
+lends_of known old_side new_side old new entry bytes taken alive tells buried lent skips some is
+    story arrivals sent ended touched =
+    let b = skips.before in
+    let first : bytes ≡ take b.in_memory b.bytes = lent ∙ ap lent_of skips.had in
+    let there : length_of old.output ≡ length b.bytes = ap length_of skips.had in
+    let size : length bytes ≡ min b.in_memory (length b.bytes) = ap length first
+    ∙ length-take b.in_memory b.bytes in
+    let whole : take (length bytes) bytes ≡ bytes = take-length bytes in
+    let front : take (length bytes) b.bytes ≡ bytes = ap (λ n. take n b.bytes) size
+    ∙ (take_min b.in_memory b.bytes ∙ sym first) in
+    drains_of known old_side new_side old old new entry bytes (length bytes) taken alive tells
+    buried (untouched known.spill_tells old b skips.had) skips (omega (arith, size, there)) some
+    (λ t o had. whole ∙ (sym front ∙ ap (λ (x : Buffered _). take (length bytes) x.bytes)
+    (same b o (sym skips.had ∙ had)))) is story arrivals
+    (λ t. sent t ∙ ap (λ xs. old_side.link.sent ++ take taken xs) (sym whole)) ended touched
 
 pub over_none : (dead : Option End) (done : Bool) (o : Option End) → o ≡ over_by dead done →
     is_some o ≡ false → dead ≡ None

@@ -1,5 +1,5 @@
 -- What a step of the answering side is to those who see a channel's numbers alone.
-use Rattle.std.proofs.Common.{◌≡◌, ◌+◌, Bool, true, false, []}
+use Rattle.std.proofs.Common.{◌≡◌, Bool, true, false, []}
 use Rattle.std.proofs.Common.{◌++◌, Option, Some, None, refl, sym, ap, ◌∙◌}
 use Rattle.std.proofs.Common.{append-nil}
 use Rattle.std.specs.Prelude.{is_some, map, option_to_list}

@@ -1,6 +1,6 @@
 -- What each function on the state does to it.
 use Rattle.std.specs.Prelude.{◌≡◌, ◌<◌, ◌+◌, ℕ, max, Bool, true, false, not, ◌&&◌, ◌||◌}
-use Rattle.std.specs.Prelude.{if◌then◌else◌, nat_eq, nat_lt, List, [], ◌∷◌, ◌++◌, length, drop}
+use Rattle.std.specs.Prelude.{if◌then◌else◌, nat_eq, nat_lt, List, [], ◌∷◌, ◌++◌, length, take, drop}
 use Rattle.std.specs.Prelude.{Option, Some, None, is_none, Result, Ok, Err}
 use Rattle.std.specs.Option.{ForSome}
 use Rattle.outside.specs.declared.types.End.{End}
@@ -14,6 +14,11 @@ use Rattle.channel.specs.Views.{over_by}
 abbrev pub length_of : {S : Type 0} → Option (Buffered S) → ℕ
 length_of None = 0
 length_of (Some b) = length b.bytes
+
+-- the first bytes, where they stand in memory
+abbrev pub lent_of : {S : Type 0} → Option (Buffered S) → List ℕ
+lent_of None = []
+lent_of (Some b) = take b.in_memory b.bytes
 
 -- something is there, and has counted a fault
 abbrev pub has_counted : {T : Type 0} → (T → ℕ) → Option T → Bool

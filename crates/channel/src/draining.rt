@@ -1,6 +1,6 @@
 //! What goes out: a send of the output, and how long nothing may move.
 ghost use Rattle.std.specs.Prelude.{◌≡◌, ◌<◌, ◌+◌, true, false, IsTrue, None, length};
-ghost use Rattle.channel.specs.Acting.{output_length, over_of};
+ghost use Rattle.channel.specs.Acting.{lent_of, output_length, over_of};
 ghost use Rattle.channel.specs.Agreement.{known_by};
 ghost use Rattle.channel.specs.Happening.{CheckCalls, DrainCalls, IfAsked, Says, SaysSome};
 ghost use Rattle.channel.specs.Sides.{Sees, TurnsNear, is_late, linked};
@@ -15,8 +15,34 @@ use std::snapshot::Snapshot;
 use wsgi::App;
 
 impl<L: Link + Drop, A: App<S>, S: Spill + Send + Drop> Near<L, A, S> {
-    // Makes one send.
-    fn send(
+    // Makes one send of what stands in memory.
+    fn send_lent(&mut self, now: u64, state: &mut Shared<A, A::Run, S>) -> (Moved, LeftEntry<S>)
+        requires alive { state.old.dead ≡ None }
+        requires some { 0 < length (lent_of state.old.output) }
+        ensures asked { IfAsked true result.0 None }
+        ensures turns { TurnsNear (linked L.tells L.state L.faults L.key L.plan)
+            (known_by S.tells A.tells A.script S.faults A.Run.faults A.Run.spill_faults)
+            self.old self.new (state_of state.old) (state_of state.new) result.1 }
+        ensures says { Sees (linked L.tells L.state L.faults L.key L.plan) self.old self.new
+            (state_of state.old) (state_of state.new) result.1
+            (Says L.tells now result.0) }
+    {
+        let bytes = state.lent();
+        match self.link.send(now, bytes) {
+            Sent::Took(count) => {
+                self.touched = now;
+                let taken = &bytes[..count];
+                let entry = tell::<_, _, Drains>(&taken);
+                state.skip(count as u64);
+                (Moved::Took, entry)
+            }
+            Sent::NotYet => (Moved::PutOff, tell::<_, _, Looked>(&())),
+            Sent::Failed => (Moved::Failed, kill(state, End::LinkFault)),
+        }
+    }
+
+    // Makes one send of what stands in the spill.
+    fn send_stored(
         &mut self,
         now: u64,
         room: &mut [u8],
@@ -70,7 +96,10 @@ impl<L: Link + Drop, A: App<S>, S: Spill + Send + Drop> Near<L, A, S> {
         if state.dead.is_some() || !state.has_output() {
             return (Moved::Idle, tell::<_, _, Looked>(&()));
         }
-        self.send(now, room, state)
+        if state.lent().is_empty() {
+            return self.send_stored(now, room, state);
+        }
+        self.send_lent(now, state)
     }
 
     /// Makes one send where there is something to send.

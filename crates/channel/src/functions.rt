@@ -5,8 +5,8 @@ ghost use Rattle.std.specs.Prelude.{if◌then◌else◌, Some, None, IsTrue, is_
 ghost use Rattle.std.specs.Prelude.{take, min, IfOk, OnOk, OnErr};
 ghost use Rattle.std.specs.Option.{ForSome};
 ghost use Rattle.channel.specs.Acting.{Adds, Begins, CountsFault, Skips, Touches, closing_by};
-ghost use Rattle.channel.specs.Acting.{goes_on, is_working, over_of, output_length, ready_by};
-ghost use Rattle.channel.specs.Acting.{spill_by, spill_counted, unit_count};
+ghost use Rattle.channel.specs.Acting.{goes_on, is_working, lent_of, over_of, output_length};
+ghost use Rattle.channel.specs.Acting.{ready_by, spill_by, spill_counted, unit_count};
 ghost use Rattle.channel.specs.Agreement.{end_by};
 ghost use Rattle.outside.specs.declared.types.End.TheVariants as over;
 ghost use Rattle.channel.specs.State.{opened_state, state_of};
@@ -158,6 +158,16 @@ impl<A, R: Drop, S: Spill + Drop> Shared<A, R, S> {
                 self.closing = true;
                 self.ready.clear();
             }
+        }
+    }
+
+    /// The first bytes of the output, where they stand in memory.
+    pub(crate) fn lent(&self) -> &[u8]
+        ensures { result.now ≡ lent_of self.now.output }
+    {
+        match &self.output {
+            Some(output) => output.lent(),
+            None => &[],
         }
     }
 
