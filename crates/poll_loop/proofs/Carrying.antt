@@ -140,18 +140,19 @@ answers_on Holds plan old mid new a r h = (
 )
 
 -- so many came as there is room for, counted by those that came since
-until_on : {L P : Type 0} (settings : Settings) (n n' accepted accepted' : ℕ)
-    (since : List (Peer × P)) (old mid new : NetState L P) → n' ≡ n → accepted' ≡ accepted →
-    mid.given ≡ old.given ++ since →
-    OnlyRetires mid new → AcceptsAll settings n accepted old mid →
-    Rose old.put_off new.put_off ⊎ ((settings.connection_limit ≤ n' + length since)
+until_on : {L P : Type 0} (settings : Settings) (there nobody : Type 0)
+    (n n' accepted accepted' : ℕ) (since : List (Peer × P)) (old mid : NetState L P) → n' ≡ n →
+    accepted' ≡ accepted → mid.given ≡ old.given ++ since →
+    (there → nobody) → AcceptsAll settings there n accepted old mid →
+    nobody ⊎ ((settings.connection_limit ≤ n' + length since)
     ⊎ (is_below settings.serve_limit accepted' ≡ false))
-until_on settings n n' accepted accepted' since old mid new same count given r h = elim h [
-  | inl p ↦ inl (subst (λ k. Rose old.put_off k) (sym (ap (λ s. s.put_off) r.same)) p)
-  | inr (inl q) ↦ inr (inl (let g = ap length given in let g' =
-      length-append old.given since in omega (arith, q, g, g', same)))
-  | inr (inr b) ↦ inr (inr (ap (is_below settings.serve_limit) count ∙ b))
-]
+until_on settings there nobody n n' accepted accepted' since old mid same count given still h =
+    elim h [
+      | inl p ↦ inl (still p)
+      | inr (inl q) ↦ inr (inl (let g = ap length given in let g' =
+          length-append old.given since in omega (arith, q, g, g', same)))
+      | inr (inr b) ↦ inr (inr (ap (is_below settings.serve_limit) count ∙ b))
+    ]
 
 -- ---- a turn behind its poll
 
@@ -178,23 +179,24 @@ module _ {L P A S R : Type 0} (Holds : NetState L P → Retired L → Type 0) (e
         lasts ≡ filter is_kept news →
         Accounts Holds e.plan (books old x f (seated e olds)) (books mid y g (seated e mids)) →
         SamePolls old mid → (IsTrue turn.come → Answers old mid) →
-        (accepted : ℕ) → now.accepted ≡ accepted → (IsTrue turn.come →
-        AcceptsAll before.settings (length olds) accepted old mid) →
+        (accepted : ℕ) → now.accepted ≡ accepted → (there nobody : Type 0) → (there → nobody) →
+        (IsTrue turn.come →
+        AcceptsAll before.settings there (length olds) accepted old mid) →
         (turn.come ≡ false → mid.given ≡ old.given) →
         Accounts Holds e.plan (books mid y g (seated e mids)) (books new z h (seated e lasts)) →
         OnlyRetires mid new →
         now.checked ≡ checked_after turn.now before.checked before.settings.cleanup_interval →
         length lasts ≤ before.settings.connection_limit → IsTrue
         (is_below before.settings.serve_limit now.retired) →
-        Carries e wants turn before now old new
-    carries told were are rest asks takes labours kept_is a1 same answers accepted count all uncalled
-        a2 r checked within unmet =
+        Carries e wants turn before now nobody old new
+    carries told were are rest asks takes labours kept_is a1 same answers accepted count there
+        nobody still all uncalled a2 r checked within unmet =
         let w = before.settings.window in
         let due = nat_le (checked_by turn.now before.checked + before.settings.cleanup_interval)
         turn.now in
         let T : Turned due e turn.now w wants olds takes.came news =
         turned due e turn.now w wants olds takes.came news told asks rest takes.rest
-        (news_by e turn.now takes.came told takes.opened takes.shown)
+        (news_by e turn.now takes.came told takes.opened takes.faultless takes.shown)
         (subst (λ ss. Labours due e turn.now w wants ss news) takes.are labours) in
         let seen : views e now ≡ map (λ s. viewed e s.lane) lasts = ap (map (viewed e)) are ∙
         map_twice (viewed e) (λ s. s.lane) lasts in
@@ -222,9 +224,10 @@ module _ {L P A S R : Type 0} (Holds : NetState L P → Retired L → Type 0) (e
               omega (arith, k, b, c, n, m, m', s, s');
           answers = λ come. answers_on Holds e.plan old (books mid y g (seated e mids))
               (books new z h (seated e lasts)) a2 r (answers come);
-          all = λ come. until_on before.settings (length olds) (length before.open') accepted
-              now.accepted a1.since old mid new (ap length were ∙ map_length (λ seat. seat.lane) olds)
-              count a1.given r (all come);
+          all = λ come. until_on before.settings there nobody (length olds) (length before.open')
+              accepted now.accepted a1.since old mid
+              (ap length were ∙ map_length (λ seat. seat.lane) olds) count a1.given still
+              (all come);
           uncalled = λ none. ap (λ n. n.given) r.same ∙ uncalled none;
           on_time = λ late.
               subst (λ ls. EachIs (λ v. is_late turn.now w v.shown ≡ false) (map (viewed e) ls))

@@ -273,9 +273,13 @@ IsNew e now s = IsFresh now (viewed e s.lane)
 pub news_by : {L P A S R : Type 0} (e : Eyes L P) (now : ℕ) (came : List (Seat L A S P R)) →
     IsTrue e.tells →
     EachIs (λ seat. IsTrue e.tells → e.state seat.lane.link ≡ opened now) came →
+    EachIs (λ seat. e.faults seat.lane.link ≡ 0) came →
     EachIs (λ seat. seat.lane.shown ≡ fresh now) came → EachIs (IsNew e now) came
-news_by e now [] t o h = tt
-news_by e now (s ∷ ss) t o h = (record { link = o.0 t; shown = h.0 }, news_by e now ss t o.1 h.1)
+news_by e now [] t o f h = tt
+news_by e now (s ∷ ss) t o f h = (
+  record { link = o.0 t; faultless = f.0; shown = h.0 },
+  news_by e now ss t o.1 f.1 h.1,
+)
 
 -- an idle check does nothing to one that has nothing to send
 new_by_check : {L P A S R : Type 0} (due : Bool) (e : Eyes L P) (now : ℕ) (w : Window)

@@ -17,8 +17,8 @@ use Rattle.outside.specs.declared.types.End.TheVariants as over
 use Rattle.outside.specs.declared.types.Peer.{Peer}
 use Rattle.outside.specs.declared.types.Want.{Want}
 use Rattle.poll_loop.specs.Accounts.{Accounts, Books, TimeGoesOn, books, retired_of}
-use Rattle.poll_loop.specs.Connections.{CameAll, CameBy, CameMore, CameUntil, SamePolls, SeatsOne}
-use Rattle.poll_loop.specs.Connections.{Takes, seated}
+use Rattle.poll_loop.specs.Connections.{CameAll, CameBy, CameMore, CameUntil, LeavesNobody}
+use Rattle.poll_loop.specs.Connections.{SamePolls, SeatsOne, Takes, seated}
 use Rattle.poll_loop.specs.Entries.{EntryHolds, Grounds, IsTimely, IsWithin, Service, app_faults}
 use Rattle.poll_loop.specs.Entries.{spill_faults}
 use Rattle.poll_loop.specs.Seat.{Eyes, SeatHolds, viewed}
@@ -270,6 +270,7 @@ takes_refl e settings app now seats = record {
   rest = tt;
   by = tt;
   opened = tt;
+  faultless = tt;
   shown = tt;
 }
 
@@ -282,6 +283,7 @@ takes_trans e settings app now a b c x y = record {
   rest = each_append _ x.came y.came x.rest y.rest;
   by = each_append _ x.came y.came x.by y.by;
   opened = each_append _ x.came y.came x.opened y.opened;
+  faultless = each_append _ x.came y.came x.faultless y.faultless;
   shown = each_append _ x.came y.came x.shown y.shown;
 }
 
@@ -364,13 +366,13 @@ module _ {L P : Type 0} (Holds : NetState L P → Retired L → Type 0) (plan : 
     net_answers came.NoMemory by = tt
 
     -- the last accept brought nobody
-    net_until : (last : Came) (settings : Settings) (open' : ℕ) → ¬ (last ≡ came.One) →
-        CameBy last b.net c.net → CameUntil last settings open' z a.net c.net
-    net_until came.One settings open' other by = absurd (other refl)
-    net_until came.Nobody settings open' other by = inl (subst (λ k. Rose k c.net.put_off)
-        sofar.put_off by.1)
-    net_until came.Failed settings open' other by = tt
-    net_until came.NoMemory settings open' other by = tt
+    net_until : (last : Came) (settings : Settings) (nobody : Type 0) (open' : ℕ) →
+        ¬ (last ≡ came.One) → LeavesNobody last nobody →
+        CameUntil last settings nobody open' z a.net c.net
+    net_until came.One settings nobody open' other left = absurd (other refl)
+    net_until came.Nobody settings nobody open' other left = inl left
+    net_until came.Failed settings nobody open' other left = tt
+    net_until came.NoMemory settings nobody open' other left = tt
 
 no_room : (n limit : ℕ) (b : Bool) → (nat_lt n limit && b) ≡ false → (limit ≤ n) ⊎ (b ≡ false)
 no_room n limit b h = by_test (nat_lt n limit) refl h
@@ -428,11 +430,11 @@ module _ {L P A S R : Type 0} (tells : Bool) (Holds : NetState L P → Retired L
     last_came last by t = net_answers Holds e.plan settings.serve_limit later rounds a b c x y z
         (sofar.net t) (more t) last (by t)
 
-    pub last_until : (last : Came) → ¬ (last ≡ came.One) →
-        (IsTrue tells → CameBy last b.net c.net) → IsTrue tells →
-        CameUntil last settings (length s1) z a.net c.net
-    last_until last other by t = net_until Holds e.plan settings.serve_limit later rounds a b c x y
-        z (sofar.net t) (more t) last settings (length s1) other (by t)
+    pub last_until : (last : Came) (nobody : Type 0) → ¬ (last ≡ came.One) →
+        LeavesNobody last nobody → IsTrue tells →
+        CameUntil last settings nobody (length s1) z a.net c.net
+    last_until last nobody other left t = net_until Holds e.plan settings.serve_limit later rounds a
+        b c x y z (sofar.net t) (more t) last settings nobody (length s1) other left
 
   -- there is no more room
   pub full_came : (rounds : ℕ) (s1 s2 : List (Seat L A S P R)) (a b : Books L P) (x y : ℕ) →
@@ -445,9 +447,10 @@ module _ {L P A S R : Type 0} (tells : Bool) (Holds : NetState L P → Retired L
   -- so many came as there is room for or are to be served
   pub full_until : (rounds : ℕ) (s1 s2 : List (Seat L A S P R)) (a b : Books L P) (x y : ℕ) →
       SoFar tells Holds e settings app now rounds s1 s2 a b x y →
+      (nobody : Type 0) →
       (settings.connection_limit ≤ length s1 + rounds) ⊎ (is_below settings.serve_limit y ≡ false) →
-      IsTrue tells → CameUntil came.One settings (length s1) y a.net b.net
-  full_until rounds s1 s2 a b x y sofar full t = inr (elim full [
+      IsTrue tells → CameUntil came.One settings nobody (length s1) y a.net b.net
+  full_until rounds s1 s2 a b x y sofar nobody full t = inr (elim full [
     | inl h ↦ inl (let k = (sofar.net t).each in omega (arith, h, k))
     | inr h ↦ inr h
   ])
@@ -455,9 +458,10 @@ module _ {L P A S R : Type 0} (tells : Bool) (Holds : NetState L P → Retired L
   -- the seats are taken
   pub full_seats : (rounds : ℕ) (s1 s2 : List (Seat L A S P R)) (a b : Books L P) (x y : ℕ) →
       SoFar tells Holds e settings app now rounds s1 s2 a b x y →
+      (nobody : Type 0) →
       (nat_lt (length s2) settings.connection_limit && is_below settings.serve_limit y) ≡ false →
-      IsTrue tells → CameUntil came.One settings (length s1) y a.net b.net
-  full_seats rounds s1 s2 a b x y sofar full = full_until rounds s1 s2 a b x y sofar
+      IsTrue tells → CameUntil came.One settings nobody (length s1) y a.net b.net
+  full_seats rounds s1 s2 a b x y sofar nobody full = full_until rounds s1 s2 a b x y sofar nobody
       (elim (no_room (length s2) settings.connection_limit (is_below settings.serve_limit y) full) [
         | inl h ↦ inl (let k = sofar.few in omega (arith, h, k))
         | inr h ↦ inr h

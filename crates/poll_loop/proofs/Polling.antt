@@ -251,13 +251,14 @@ due_by_marks e w (s ∷ ss) h =
 -- ---- a turn
 
 pub no_idle_by : {L P A R : Type 0} (e : Eyes L P) (before now : Serving L A R) (wants : List Want)
-    (asked : ℕ) (accepting : Bool) (turn : Turn) (old mid new : NetState L P) →
-    TellsTurn wants accepting turn old mid → Carries e (take asked wants) turn before now mid new →
+    (asked : ℕ) (accepting : Bool) (turn : Turn) (nobody : Type 0) (old mid new : NetState L P) →
+    TellsTurn wants accepting turn old mid →
+    Carries e (take asked wants) turn before now nobody mid new →
     turn.stop ≡ false → accepting ≡ is_accepting before →
     Nudges (is_some_due before.settings.window (views e before)) (drop asked wants) →
-    NoIdle e before now old new
-no_idle_by {L} {P} e before now wants asked accepting turn old mid new told c unstopped accepts
-    nudges =
+    NoIdle e before now nobody old new
+no_idle_by {L} {P} e before now wants asked accepting turn nobody old mid new told c unstopped
+    accepts nudges =
     let s = told.state in
     let poll : Poll P = record {
       wants = wants;
@@ -295,10 +296,7 @@ no_idle_by {L} {P} e before now wants asked accepting turn old mid new told c un
               ap (λ n. n.live) s in omega (arith, h, x, y))
         ],
       );
-      all = λ come. subst (λ k. Rose k new.put_off ⊎ ((before.settings.connection_limit ≤ length
-          before.open' + length c.since) ⊎ (is_below before.settings.serve_limit
-          now.accepted ≡ false)))
-          (ap (λ n. n.put_off) s) (c.all come);
+      all = c.all;
       uncalled = λ none. c.uncalled none ∙ ap (λ n. n.given) s;
       on_time = c.on_time;
       checked = c.checked;

@@ -124,6 +124,7 @@ pub record Takes {L P A S R : Type 0} (e : Eyes L P) (settings : Settings) (app 
   pub rest : EachIs (SeatRests e settings.window) came
   pub by : EachIs (IsOpenedBy settings app) came
   pub opened : EachIs (λ seat. IsTrue e.tells → e.state seat.lane.link ≡ opened now) came
+  pub faultless : EachIs (λ seat. e.faults seat.lane.link ≡ 0) came
   pub shown : EachIs (λ seat. seat.lane.shown ≡ fresh now) came
 
 -- one more connection has a seat
@@ -153,21 +154,30 @@ CameAll came.Nobody old new = Answers old new
 CameAll came.Failed old new = Unit {0}
 CameAll came.NoMemory old new = Unit {0}
 
--- The net was asked until it put off, unless so many came as there was room for beside those that
--- were open, or all that are to be served were accepted.
-abbrev pub AcceptsAll : {L P : Type 0} → Settings → ℕ → ℕ → NetState L P → NetState L P → Type 0
-AcceptsAll settings open' accepted old new =
-    Rose old.put_off new.put_off ⊎ ((settings.connection_limit + length old.given ≤ open' + length
-    new.given) ⊎
-    (is_below settings.serve_limit accepted ≡ false))
+-- nobody waits behind an accept that gave nobody
+abbrev pub LeavesNobody : Came → Type 0 → Type 0
+LeavesNobody came.Nobody nobody = nobody
+LeavesNobody came.One nobody = Unit {0}
+LeavesNobody came.Failed nobody = Unit {0}
+LeavesNobody came.NoMemory nobody = Unit {0}
+
+-- The net was asked until nobody was left, unless so many came as there was room for beside those
+-- that were open, or all that are to be served were accepted.
+abbrev pub AcceptsAll : {L P : Type 0} → Settings → Type 0 → ℕ → ℕ → NetState L P → NetState L P →
+    Type 0
+AcceptsAll settings nobody open' accepted old new = nobody
+    ⊎ ((settings.connection_limit + length old.given ≤ open' + length new.given)
+    ⊎ (is_below settings.serve_limit accepted ≡ false))
 
 -- the same unless accepting failed
-abbrev pub CameUntil : {L P : Type 0} → Came → Settings → ℕ → ℕ → NetState L P → NetState L P →
-    Type 0
-CameUntil came.One settings open' accepted old new = AcceptsAll settings open' accepted old new
-CameUntil came.Nobody settings open' accepted old new = AcceptsAll settings open' accepted old new
-CameUntil came.Failed settings open' accepted old new = Unit {0}
-CameUntil came.NoMemory settings open' accepted old new = Unit {0}
+abbrev pub CameUntil : {L P : Type 0} → Came → Settings → Type 0 → ℕ → ℕ → NetState L P →
+    NetState L P → Type 0
+CameUntil came.One settings nobody open' accepted old new =
+    AcceptsAll settings nobody open' accepted old new
+CameUntil came.Nobody settings nobody open' accepted old new =
+    AcceptsAll settings nobody open' accepted old new
+CameUntil came.Failed settings nobody open' accepted old new = Unit {0}
+CameUntil came.NoMemory settings nobody open' accepted old new = Unit {0}
 
 -- the count of poll and accept rises only where accept failed
 abbrev pub CameCause : Came → ℕ → ℕ → Type 0

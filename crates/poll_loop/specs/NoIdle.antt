@@ -113,6 +113,7 @@ pub record Asks (now : ℕ) (w : Window) (c : Case) : Type 0 where
 -- A channel that came in a turn of this moment, and to which nothing has happened.
 pub record IsFresh (now : ℕ) (v : View) : Type 0 where
   pub link : v.link ≡ opened now
+  pub faultless : v.faults ≡ 0
   pub shown : v.shown ≡ fresh now
 
 -- A want that asks nothing tells the net that work is waiting.
@@ -133,8 +134,8 @@ abbrev pub Answers : {L P : Type 0} → NetState L P → NetState L P → Type 0
 Answers old new = Rose old.asked new.asked ×
     (Rose old.put_off new.put_off ⊎ (length old.closed + old.live < length new.closed + new.live))
 
--- A turn that lets serving go on.
-pub record NoIdle {L P A R : Type 0} (e : Eyes L P) (before now : Serving L A R)
+-- A turn that lets serving go on. By nobody, nobody waits on the net at its end.
+pub record NoIdle {L P A R : Type 0} (e : Eyes L P) (before now : Serving L A R) (nobody : Type 0)
     (old new : NetState L P) : Type 0 where
   -- the one poll: it found the net as the turn did, and did not tell to stop
   pub polled : new.polls ≡ raised old.polls
@@ -160,9 +161,9 @@ pub record NoIdle {L P A R : Type 0} (e : Eyes L P) (before now : Serving L A R)
   pub given_since : new.given ≡ old.given ++ since
   pub few : length came ≤ length since
   pub answers : IsTrue poll.turn.come → Answers old new
-  -- where somebody came, the net was asked until it put off, unless so many came as there is room
-  -- for or are to be served
-  pub all : IsTrue poll.turn.come → Rose old.put_off new.put_off ⊎
+  -- where somebody came, the net was asked until nobody was left, unless so many came as there is
+  -- room for or are to be served
+  pub all : IsTrue poll.turn.come → nobody ⊎
       ((before.settings.connection_limit ≤ length before.open' + length since) ⊎
       (is_below before.settings.serve_limit now.accepted ≡ false))
   -- nobody is accepted whom no poll told

@@ -3,7 +3,6 @@ use Rattle.std.specs.Prelude.{◌≡◌, ◌≤◌, ◌<◌, ◌+◌, ◌⊎◌,
 use Rattle.std.specs.Prelude.{filter, length, map, nat_le, vec_capacity, Option, None, Some, Result}
 use Rattle.std.specs.Prelude.{Ok, Err}
 use Rattle.channel.specs.Views.{View, is_late}
-use Rattle.outside.specs.Causes.{Rose}
 use Rattle.outside.specs.Net.{NetState}
 use Rattle.outside.specs.declared.types.Peer.{Peer}
 use Rattle.outside.specs.declared.types.Turn.{Turn}
@@ -111,7 +110,7 @@ pub record WorksOff {N A P L M B R S : Type 0} (e : Eyes L B) (now : ℕ) (wants
 
 -- What a turn does behind its poll, but for what its poll tells.
 pub record Carries {L P A R : Type 0} (e : Eyes L P) (wants : List Want) (turn : Turn)
-    (before now : Serving L A R) (old new : NetState L P) : Type 0 where
+    (before now : Serving L A R) (nobody : Type 0) (old new : NetState L P) : Type 0 where
   pub cases : List Case
   pub were : map (λ c. c.old) cases ≡ views e before
   pub asked : map (λ c. c.ready) cases ≡ wants
@@ -123,9 +122,9 @@ pub record Carries {L P A R : Type 0} (e : Eyes L P) (wants : List Want) (turn :
   pub given_since : new.given ≡ old.given ++ since
   pub few : length came ≤ length since
   pub answers : IsTrue turn.come → Answers old new
-  -- where somebody came, the net was asked until it put off, unless so many came as there is room
-  -- for or are to be served
-  pub all : IsTrue turn.come → Rose old.put_off new.put_off ⊎
+  -- where somebody came, the net was asked until nobody was left, unless so many came as there is
+  -- room for or are to be served
+  pub all : IsTrue turn.come → nobody ⊎
       ((before.settings.connection_limit ≤ length before.open' + length since) ⊎
       (is_below before.settings.serve_limit now.accepted ≡ false))
   -- nobody is accepted whom no poll told

@@ -4,8 +4,8 @@ ghost use Rattle.std.specs.Prelude.{IfNone, IfErr, OnOk, OnErr, length, nat_lt, 
 ghost use Rattle.outside.specs.Link.{opened};
 ghost use Rattle.poll_loop.specs.Accounts.{Accounts, books};
 ghost use Rattle.poll_loop.specs.Connections.{AcceptsAll, CameAll, CameBy, CameCause, CameMore};
-ghost use Rattle.poll_loop.specs.Connections.{CameUntil, Counted, FaultCause, SamePolls, SeatsOne};
-ghost use Rattle.poll_loop.specs.Connections.{Takes, holds_on, seated};
+ghost use Rattle.poll_loop.specs.Connections.{CameUntil, Counted, FaultCause, LeavesNobody};
+ghost use Rattle.poll_loop.specs.Connections.{SamePolls, SeatsOne, Takes, holds_on, seated};
 ghost use Rattle.poll_loop.specs.Entries.{IsWithin};
 ghost use Rattle.poll_loop.specs.NoIdle.{Answers};
 ghost use Rattle.poll_loop.specs.Seat.{eyes_of};
@@ -137,6 +137,7 @@ fn accept_one<'a, N: Net, A: App<P::Spill>, P: Spills>(
         (seated (eyes_of N.Link.Link) connections.new.seats.items)) }
     ensures same_polls { IsTrue N.tells → SamePolls (N.state net.old) (N.state net.new) }
     ensures came { IsTrue N.tells → CameBy result (N.state net.old) (N.state net.new) }
+    ensures nobody { LeavesNobody result (N.nobody net.new) }
     ensures cause { CameCause result (N.poll_faults net.old) (N.poll_faults net.new) }
     ensures counted { Counted opening.now.settings.now.serve_limit connections.new.accepted
         connections.new.retired
@@ -200,7 +201,7 @@ fn accept_all<'a, N: Net, A: App<P::Spill>, P: Spills>(
         (seated (eyes_of N.Link.Link) connections.new.seats.items)) }
     ensures same_polls { IsTrue N.tells → SamePolls (N.state net.old) (N.state net.new) }
     ensures came { IsTrue N.tells → CameAll result (N.state net.old) (N.state net.new) }
-    ensures all { IsTrue N.tells → CameUntil result opening.now.settings.now
+    ensures all { IsTrue N.tells → CameUntil result opening.now.settings.now (N.nobody net.new)
         (length connections.old.seats.items)
         connections.new.accepted (N.state net.old) (N.state net.new) }
     ensures cause { CameCause result (N.poll_faults net.old) (N.poll_faults net.new) }
@@ -269,8 +270,8 @@ pub(crate) fn accept_if<'a, N: Net, A: App<P::Spill>, P: Spills>(
     ensures answers { IfNone result (IsTrue come → IsTrue N.tells → Answers (N.state net.old)
         (N.state net.new)) }
     ensures all { IfNone result (IsTrue come → IsTrue N.tells → AcceptsAll opening.now.settings.now
-        (length connections.old.seats.items) connections.new.accepted (N.state net.old)
-        (N.state net.new)) }
+        (N.nobody net.new) (length connections.old.seats.items) connections.new.accepted
+        (N.state net.old) (N.state net.new)) }
     ensures uncalled { come ≡ false → IsTrue N.tells → (N.state net.new).given ≡
         (N.state net.old).given }
     ensures cause { FaultCause result (N.poll_faults net.old) (N.poll_faults net.new) }

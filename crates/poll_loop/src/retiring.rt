@@ -127,6 +127,7 @@ fn retire_lane<'a, N: Net, A: App<P::Spill>, P: Spills>(
     ensures broke { All (λ run. 0 < A.Run.faults run) fallen.new.items }
     ensures bind { N.bind_faults net.new ≡ N.bind_faults net.old }
     ensures polls { N.poll_faults net.new ≡ N.poll_faults net.old }
+    ensures nobody { N.nobody net.old → N.nobody net.new }
     ensures plan { N.plan net.new ≡ N.plan net.old }
     ensures moment { N.moment net.new ≡ N.moment net.old }
     ensures spills { P.faults spills.old ≤ P.faults spills.new }
@@ -187,6 +188,7 @@ pub(crate) fn retire_over<'a, N: Net, A: App<P::Spill>, P: Spills>(
     ensures accepted { connections.new.accepted ≡ connections.old.accepted }
     ensures bind { N.bind_faults net.new ≡ N.bind_faults net.old }
     ensures polls { N.poll_faults net.new ≡ N.poll_faults net.old }
+    ensures nobody { N.nobody net.old → N.nobody net.new }
     ensures plan { N.plan net.new ≡ N.plan net.old }
     ensures moment { N.moment net.new ≡ N.moment net.old }
     ensures spills { P.faults spills.old ≤ P.faults spills.new }

@@ -1,5 +1,6 @@
 //! The server.
-ghost use Rattle.std.specs.Prelude.{◌≡◌, ◌<◌, [], All, IfOk, None};
+ghost use Rattle.std.specs.Prelude.{◌≡◌, ◌<◌, [], All, IfOk, None, length, option_map};
+ghost use Rattle.std.specs.List.{slice_get};
 ghost use Rattle.poll_loop.specs.Seat.{eyes_of};
 ghost use Rattle.poll_loop.specs.Server.{Stands, serving};
 ghost use Rattle.poll_loop.specs.Settings.{AreUsable};
@@ -7,7 +8,7 @@ ghost use Rattle.poll_loop.specs.Settings.{AreUsable};
 use crate::attending::Rooms;
 use crate::connections::Connections;
 use crate::settings::Settings;
-use channel::ROOM;
+use channel::{Lane, ROOM};
 use outside::{Net, Spills, Want};
 use std::alloc::{AllocError, Global};
 use wsgi::{App, AppRun};
@@ -56,6 +57,23 @@ impl<'a, N: Net, A: App<P::Spill>, P: Spills> Server<'a, N, A, P> {
             rooms: Rooms { recv, send },
             checked: None,
         })
+    }
+
+    /// How many connections are open.
+    pub fn lane_count(&self) -> usize
+        ensures { result ≡ length (serving self.now).open' }
+    {
+        self.connections.seats.len()
+    }
+
+    /// The open connection at this place, in the order in which they came.
+    pub fn lane(&self, place: usize) -> Option<&Lane<'a, N::Link, A, P::Spill>>
+        ensures { option_map (λ lane. lane.now) result ≡ slice_get (serving self.now).open' place }
+    {
+        match self.connections.seats.get(place) {
+            Some(seat) => Some(&seat.lane),
+            None => None,
+        }
     }
 
     /// The runs of the connections that ended by a fault of the application, one for each.

@@ -25,8 +25,8 @@ impl<'a, N: Net, A: App<P::Spill>, P: Spills> Server<'a, N, A, P> {
         requires hosts { IsTrue N.tells → Hosts (eyes_of N.Link.Link) (N.state net.old)
             (serving self.old).open' }
         ensures no_idle { result ≡ Ok going.On → IsTrue N.tells → IsTrue N.Link.tells →
-            NoIdle (eyes_of N.Link.Link) (serving self.old) (serving self.new) (N.state net.old)
-            (N.state net.new) }
+            NoIdle (eyes_of N.Link.Link) (serving self.old) (serving self.new) (N.nobody net.new)
+            (N.state net.old) (N.state net.new) }
         ensures goes_on { result ≡ Ok going.On → IsTrue N.tells → Accounts
             (holds_on N.Link.Link P.Spill.Spill A.App A.Run.AppRun (serving self.old).settings
             (serving self.old).app)

@@ -123,6 +123,7 @@ impl<'a, N: Net, A: App<P::Spill>, P: Spills> Server<'a, N, A, P> {
         ensures net { IsTrue N.tells → OnlyRetires (N.state net.old) (N.state net.new) }
         ensures accepted { self.new.connections.accepted ≡ self.old.connections.accepted }
         ensures polls { N.poll_faults net.new ≡ N.poll_faults net.old }
+        ensures nobody { N.nobody net.old → N.nobody net.new }
         ensures same { IsSameServer self.old self.new }
         ensures stands { Stands (eyes_of N.Link.Link) A.Run.faults self.new }
         ensures hosts { IsTrue N.tells → Hosts (eyes_of N.Link.Link) (N.state net.new)
@@ -168,7 +169,8 @@ impl<'a, N: Net, A: App<P::Spill>, P: Spills> Server<'a, N, A, P> {
         requires room { IsTrue turn.come → IsTrue (is_accepting (serving self.old)) }
         ensures carries { result ≡ None → IsTrue N.tells → IsTrue N.Link.tells →
             Carries (eyes_of N.Link.Link) (take asked self.old.wants.items) turn
-            (serving self.old) (serving self.new) (N.state net.old) (N.state net.new) }
+            (serving self.old) (serving self.new) (N.nobody net.new) (N.state net.old)
+            (N.state net.new) }
         ensures steps { IsTrue N.tells → Steps result
             (holds_on N.Link.Link P.Spill.Spill A.App A.Run.AppRun self.old.settings.now
             self.old.app.now)
@@ -212,8 +214,8 @@ impl<'a, N: Net, A: App<P::Spill>, P: Spills> Server<'a, N, A, P> {
         requires hosts { IsTrue N.tells → Hosts (eyes_of N.Link.Link) (N.state net.old)
             (serving self.old).open' }
         ensures no_idle { result ≡ None → IsTrue N.tells → IsTrue N.Link.tells →
-            NoIdle (eyes_of N.Link.Link) (serving self.old) (serving self.new) (N.state net.old)
-            (N.state net.new) }
+            NoIdle (eyes_of N.Link.Link) (serving self.old) (serving self.new) (N.nobody net.new)
+            (N.state net.old) (N.state net.new) }
         ensures steps { IsTrue N.tells → Steps result
             (holds_on N.Link.Link P.Spill.Spill A.App A.Run.AppRun self.old.settings.now
             self.old.app.now)

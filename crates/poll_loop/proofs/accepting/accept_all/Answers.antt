@@ -68,8 +68,8 @@ returns-in_default g c =
       came = last_came _ _ _ _ _ _ (entry_holds_later _ _ _ _) c.loop.counter _ _ _ _ _ _ _ _ _ i.0
           s.takes s.accounts s.same_polls s.came_more c.accept_one.result s.came;
       all = last_until _ _ _ _ _ _ (entry_holds_later _ _ _ _) c.loop.counter _ _ _ _ _ _ _ _ _ i.0
-          s.takes s.accounts s.same_polls s.came_more c.accept_one.result c.in_default.not-One
-          s.came;
+          s.takes s.accounts s.same_polls s.came_more c.accept_one.result _ c.in_default.not-One
+          s.nobody;
       cause = subst (λ n. CameCause c.accept_one.result n
           (g.N.Net.poll_faults c.accept_one.new.net)) i.3 s.cause;
       counted = s.counted;
@@ -114,7 +114,7 @@ returns-then-not-accepts-clause-all g c =
     let ok = c.loop.connections.seats.ok in
     let e : vec_len c.loop.connections.seats ≡ length c.loop.connections.seats.items =
     grind (arith, ok) in
-    full_seats _ _ _ _ _ _ c.loop.counter _ _ _ _ _ _ c.loop.invariant.0
+    full_seats _ _ _ _ _ _ c.loop.counter _ _ _ _ _ _ c.loop.invariant.0 _
     (subst (λ k. (nat_lt k settings.connection_limit && is_below settings.serve_limit
     c.loop.connections.accepted) ≡ false) (c.len.ensures ∙ e)
     (sym c.accepts.ensures.room ∙ c.if-not-accepts.true))
@@ -122,4 +122,5 @@ returns-then-not-accepts-clause-all g c =
 pub returns-clause-all : goal.returns-clause-all
 returns-clause-all g c =
     let t = c.loop-test.false in
-    full_until _ _ _ _ _ _ c.loop.counter _ _ _ _ _ _ c.loop.invariant.0 (inl (grind (arith, t)))
+    full_until _ _ _ _ _ _ c.loop.counter _ _ _ _ _ _ c.loop.invariant.0 _
+    (inl (grind (arith, t)))

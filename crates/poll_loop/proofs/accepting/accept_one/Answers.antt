@@ -2,7 +2,7 @@ use Rattle.std.proofs.Common.{◌≡◌, ◌∙◌, IsTrue, refl, ap, subst, sym
 use Rattle.std.specs.Prelude.{IfSome}
 use Rattle.outside.specs.Link.{opened}
 use Rattle.outside.specs.Causes.{raised}
-use Rattle.outside.specs.Net.{Accepts, GivesLink}
+use Rattle.outside.specs.Net.{Accepts, FindsNobody, GivesLink}
 use Rattle.poll_loop.specs.Connections.{seated}
 use Rattle.poll_loop.specs.Seat.{eyes_of}
 use Rattle.poll_loop.proofs.Books.{time_same, within_later}
@@ -17,6 +17,11 @@ returns-in-Ok-None-clause-accounts g c told =
     (raised net.asked) (raised net.put_off)
     (subst (λ o. Accepts g.N.Link.Link.plan (Ok o) net (g.N.Net.state c.accept.new.self))
     c.in-Ok-None.field-0-is (c.in-Ok-None.ensures.told told)) refl
+
+pub returns-in-Ok-None-clause-nobody : goal.returns-in-Ok-None-clause-nobody
+returns-in-Ok-None-clause-nobody g c =
+    subst (λ o. FindsNobody (Ok o) (g.N.Net.nobody c.accept.new.self)) c.in-Ok-None.field-0-is
+    c.in-Ok-None.ensures.nobody
 
 pub returns-in-Err-Failed-clause-accounts : goal.returns-in-Err-Failed-clause-accounts
 returns-in-Err-Failed-clause-accounts g c told =

@@ -24,6 +24,7 @@ invariant-loop-i g l = record {
   accepted : l.connections.accepted ≡ l.fn.connections.accepted;
   bind : g.N.Net.bind_faults l.net ≡ g.N.Net.bind_faults l.fn.net;
   polls : g.N.Net.poll_faults l.net ≡ g.N.Net.poll_faults l.fn.net;
+  nobody : g.N.Net.nobody l.fn.net → g.N.Net.nobody l.net;
   plan : g.N.Net.plan l.net ≡ g.N.Net.plan l.fn.net;
   moment : g.N.Net.moment l.net ≡ g.N.Net.moment l.fn.net;
   spills : g.P.Spills.faults l.fn.spills ≤ g.P.Spills.faults l.spills;

@@ -164,6 +164,7 @@ returns-then-below-clause-carries g c _ tells link_tells =
     link_tells refl refl c.requires.stands.rest c.requires.asks.asks s.takes off.labours off.kept
     (s.accounts tells) (s.same_polls tells) (λ come. c.in-None.ensures.answers come tells)
     c.accept_if.new.connections.accepted c.work.ensures.accepted
+    (g.N.Net.nobody c.accept_if.new.net) (g.N.Net.nobody c.work.new.net) c.work.ensures.nobody
     (λ come. c.in-None.ensures.all come tells) (λ none. s.uncalled none tells)
     (accounts_as Holds e.plan mid new _ _ _ _ _ _ _ _ _ _ _ _ refl refl refl refl (who_is e mids)
     (who_is e lasts) (c.work.ensures.accounts tells)) (c.work.ensures.net tells) off.checked

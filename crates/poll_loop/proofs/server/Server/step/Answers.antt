@@ -74,7 +74,7 @@ returns-else-turn-clause-no_idle g c on tells link_tells =
     let lanes : c.len-asked.result ≡ length (map (λ seat. seat.lane) seats) = count ∙
     sym (map_length (λ seat. seat.lane) seats) in
     no_idle_by e (serving c.args.self.now) (serving c.carry.new.self) c.poll.new.wants.items
-    c.len-asked.result c.accepts-accepting.result c.in-Ok.turn
+    c.len-asked.result c.accepts-accepting.result c.in-Ok.turn (g.N.Net.nobody c.carry.new.net)
     (g.N.Net.state c.args.net.now) (g.N.Net.state c.poll.new.self) (g.N.Net.state c.carry.new.net)
     (c.in-Ok.ensures.told tells) (c.carry.ensures.carries on tells link_tells) c.if-turn.false
     (c.accepts-accepting.ensures.room ∙ ap (λ k. nat_lt k settings.connection_limit && is_below
