@@ -4,7 +4,8 @@ ghost use Rattle.std.specs.Prelude.{IfErr, OnOk};
 ghost use Rattle.request_stream.specs.Asks.{asks, sizes, IsCaused};
 ghost use Rattle.request_stream.specs.Reading.{Reads, Shuts, IsSound, IsSoundFixed, IsSoundCoded};
 ghost use Rattle.request_stream.specs.Reading.{ArePositive};
-ghost use Rattle.request_stream.specs.Room.{Holds};
+ghost use Rattle.request_stream.specs.Room.{Holds, StaysWithin};
+ghost use Rattle.request_stream.specs.declared.types.Limits.{Limits as SomeLimits};
 ghost use Rattle.request_stream.specs.Units.{stamped, refused_body};
 ghost use Rattle.spill_buffer.specs.Buffer.{IsToldAs};
 
@@ -24,6 +25,8 @@ fn put<S: Spill + Drop>(
 ) -> Result<OverflowBuffer<S>, StreamFault<S>>
     ensures appended { IfOk result (λ b. IsToldAs S.tells b.bytes (body.bytes ++ from.now)) }
     ensures memory { IfOk result (λ b. b.in_memory ≤ body.in_memory + length from.now) }
+    ensures overflow { IfOk result (λ b. b.overflow ≡ body.overflow) }
+    ensures below { IfOk result (λ b. b.in_memory < b.overflow) }
     ensures cause { IfErr result (λ f. IsCaused S.faults f) }
 {
     match body.append(from) {
@@ -44,11 +47,12 @@ pub(crate) fn fill<S: Spill + Drop>(
 ) -> Result<Step<S>, StreamFault<S>>
     requires some { 0 < length piece.now }
     requires positive { ArePositive limits.now }
-    requires sound { IsSoundFixed part }
+    requires sound { IsSoundFixed limits.now part }
     ensures taken { IfOk result (λ s. (0 < s.taken) × (s.taken ≤ length piece.now)) }
     ensures sound { IfOk result (λ s. IsSound limits.now s.state) }
     ensures holds { IfOk result (λ s. Holds (State.Filling part) s.state s.taken given.old.items
         given.new.items) }
+    ensures within { OnOk result (StaysWithin limits.now given.old.items given.new.items) }
     ensures shuts { IfOk result (λ s. Shuts (State.Filling part) s.state (map asks given.old.items)
         (map asks given.new.items)) }
     ensures reads { IfOk result (λ s. Reads S.tells limits.now (State.Filling part) s.state
@@ -80,6 +84,8 @@ fn refuse_body<S: Spill + Drop>(
     ensures given { IfOk result (λ s. map asks given.new.items
         ≡ map asks given.old.items ++ refused_body head.now refusal now ∷ []) }
     ensures sizes { OnOk result (sizes given.new.items ≡ sizes given.old.items) }
+    ensures within { (limits : SomeLimits) → OnOk result
+        (StaysWithin limits given.old.items given.new.items) }
 {
     let bodyless = head.method() == b"HEAD".as_slice();
     refuse(refusal, head.version(), bodyless, now, given)
@@ -96,11 +102,12 @@ pub(crate) fn decode<S: Spill + Drop>(
 ) -> Result<Step<S>, StreamFault<S>>
     requires some { 0 < length piece.now }
     requires positive { ArePositive limits.now }
-    requires sound { IsSoundCoded part }
+    requires sound { IsSoundCoded limits.now part }
     ensures taken { IfOk result (λ s. (0 < s.taken) × (s.taken ≤ length piece.now)) }
     ensures sound { IfOk result (λ s. IsSound limits.now s.state) }
     ensures holds { IfOk result (λ s. Holds (State.Decoding part) s.state s.taken given.old.items
         given.new.items) }
+    ensures within { OnOk result (StaysWithin limits.now given.old.items given.new.items) }
     ensures shuts { IfOk result (λ s. Shuts (State.Decoding part) s.state (map asks given.old.items)
         (map asks given.new.items)) }
     ensures reads { IfOk result (λ s. Reads S.tells limits.now (State.Decoding part) s.state

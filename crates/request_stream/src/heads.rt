@@ -1,11 +1,11 @@
 //! A piece goes on with a head.
 ghost use Rattle.std.specs.Prelude.{◌≡◌, ◌≤◌, ◌<◌, ◌-◌, ◌+◌, ◌^◌, [], None, Some, length, take};
-ghost use Rattle.std.specs.Prelude.{map, IfOk, IfErr};
+ghost use Rattle.std.specs.Prelude.{map, IfOk, IfErr, OnOk};
 ghost use Rattle.head_grammar.specs.Ends.{head_end as end_of};
 ghost use Rattle.request_stream.specs.Asks.{asks, sizes, IsCaused};
 ghost use Rattle.request_stream.specs.Reading.{IsSound, IsSoundHead, ArePositive, OpensBy, LeadsBy};
 ghost use Rattle.request_stream.specs.Reading.{EndsBy, KeepsHead, SeeksOn};
-ghost use Rattle.request_stream.specs.Room.{Holds, held_of};
+ghost use Rattle.request_stream.specs.Room.{Holds, StaysWithin, held_of};
 ghost use Rattle.request_stream.specs.Units.{verdict_by};
 
 use crate::state::{CodedPart, FixedPart, State, Step};
@@ -28,11 +28,13 @@ fn begin<S: Spill + Drop, P: Spills<Spill = S>>(
 ) -> Result<State<S>, StreamFault<S>>
     requires positive { ArePositive limits.now }
     requires fits { head.size < 2 ^ 63 }
+    requires short { head.size < limits.now.max_head }
     ensures opens { IfOk result (λ s. OpensBy head.framing limits.now head now s
         (map asks given.old.items) (map asks given.new.items)) }
     ensures sound { IfOk result (λ s. IsSound limits.now s) }
     ensures holds { IfOk result (λ s. held_of s + sizes given.new.items
         ≡ sizes given.old.items + head.size) }
+    ensures within { OnOk result (StaysWithin limits.now given.old.items given.new.items) }
     ensures cause { IfErr result (λ f. IsCaused S.faults f) }
     ensures spills { P.faults spills.new ≡ P.faults spills.old }
 {
@@ -66,11 +68,13 @@ fn lead<S: Spill + Drop, P: Spills<Spill = S>>(
 ) -> Result<State<S>, StreamFault<S>>
     requires positive { ArePositive limits.now }
     requires whole { end_of bytes.now ≡ Some (length bytes.now) }
+    requires short { length bytes.now < limits.now.max_head }
     ensures leads { IfOk result (λ s. LeadsBy (verdict_by limits.now bytes.now) limits.now now s
         (map asks given.old.items) (map asks given.new.items)) }
     ensures sound { IfOk result (λ s. IsSound limits.now s) }
     ensures holds { IfOk result (λ s. held_of s + sizes given.new.items ≤ sizes given.old.items
         + length bytes.now) }
+    ensures within { OnOk result (StaysWithin limits.now given.old.items given.new.items) }
     ensures cause { IfErr result (λ f. IsCaused S.faults f) }
     ensures spills { P.faults spills.new ≡ P.faults spills.old }
 {
@@ -111,6 +115,7 @@ fn keep<S: Spill + Drop>(
     ensures sound { IfOk result (λ s. IsSound limits.now s) }
     ensures holds { IfOk result (λ s. held_of s + sizes given.new.items ≤ sizes given.old.items
         + length bytes.items) }
+    ensures within { OnOk result (StaysWithin limits.now given.old.items given.new.items) }
     ensures cause { IfErr result (λ f. IsCaused S.faults f) }
 {
     if bytes.len() as u64 == limits.max_head {
@@ -136,6 +141,7 @@ fn seek_first<S: Spill + Drop, P: Spills<Spill = S>>(
     ensures sound { IfOk result (λ s. IsSound limits.now s.state) }
     ensures holds { IfOk result (λ s. held_of s.state + sizes given.new.items
         ≤ sizes given.old.items + s.taken) }
+    ensures within { OnOk result (StaysWithin limits.now given.old.items given.new.items) }
     ensures seeks { IfOk result (λ s. SeeksOn limits.now [] (take s.taken piece.now) now s.state
         (map asks given.old.items) (map asks given.new.items)) }
     ensures cause { IfErr result (λ f. IsCaused S.faults f) }
@@ -168,6 +174,7 @@ pub(crate) fn seek<S: Spill + Drop, P: Spills<Spill = S>>(
     ensures sound { IfOk result (λ s. IsSound limits.now s.state) }
     ensures holds { IfOk result (λ s. Holds (State.Seeking held) s.state s.taken given.old.items
         given.new.items) }
+    ensures within { OnOk result (StaysWithin limits.now given.old.items given.new.items) }
     ensures seeks { IfOk result (λ s. SeeksOn limits.now held.items
         (take s.taken piece.now) now s.state (map asks given.old.items)
         (map asks given.new.items)) }

@@ -1,9 +1,9 @@
 //! A piece from its first byte to its last.
 ghost use Rattle.std.specs.Prelude.{◌≡◌, ◌≤◌, ◌<◌, ◌+◌, [], true, false, length, take, map, IfOk};
-ghost use Rattle.std.specs.Prelude.{IfErr, OnOk, OnErr};
+ghost use Rattle.std.specs.Prelude.{IfErr, OnOk, OnErr, All};
 ghost use Rattle.request_stream.specs.Asks.{asks, sizes, IsCaused};
 ghost use Rattle.request_stream.specs.Reading.{Reads, Shuts, IsSound, ArePositive, is_failed};
-ghost use Rattle.request_stream.specs.Room.{Holds, held_of};
+ghost use Rattle.request_stream.specs.Room.{Holds, IsWithin, StaysWithin, held_of};
 ghost use Rattle.request_stream.specs.Units.{stamped};
 
 use crate::bodies::{decode, fill};
@@ -30,6 +30,7 @@ fn advance<S: Spill + Drop, P: Spills<Spill = S>>(
     ensures taken { IfOk result (λ s. (0 < s.taken) × (s.taken ≤ length piece.now)) }
     ensures sound { IfOk result (λ s. IsSound limits.now s.state) }
     ensures holds { IfOk result (λ s. Holds state s.state s.taken given.old.items given.new.items) }
+    ensures within { OnOk result (StaysWithin limits.now given.old.items given.new.items) }
     ensures shuts { IfOk result (λ s. Shuts state s.state (map asks given.old.items)
         (map asks given.new.items)) }
     ensures reads { IfOk result (λ s. Reads S.tells limits.now state s.state
@@ -65,6 +66,7 @@ pub(crate) fn run<S: Spill + Drop, P: Spills<Spill = S>>(
     ensures sound { IfOk result (λ s. IsSound limits.now s) }
     ensures holds { IfOk result (λ s. Holds state s
         (length piece.now) given.old.items given.new.items) }
+    ensures within { OnOk result (StaysWithin limits.now given.old.items given.new.items) }
     ensures shuts { IfOk result (λ s. Shuts state s (map asks given.old.items)
         (map asks given.new.items)) }
     ensures reads { IfOk result (λ s. Reads S.tells limits.now state s (stamped now piece.now)
@@ -102,6 +104,7 @@ pub(crate) fn read<S: Spill + Drop, P: Spills<Spill = S>>(
     ensures none { IfOk result (λ us. is_failed state.old ≡ true → us.items ≡ []) }
     ensures holds { IfOk result (λ us. held_of state.new + sizes us.items ≤ held_of state.old
         + length piece.now) }
+    ensures within { IfOk result (λ us. All (IsWithin limits.now) us.items) }
     ensures kept { OnOk result (is_failed state.new ≡ is_failed state.old) }
     ensures fault { OnErr result (is_failed state.new ≡ true) }
     ensures cause { IfErr result (λ f. IsCaused S.faults f) }

@@ -1,9 +1,10 @@
 //! Pieces in, units out.
 ghost use Rattle.std.specs.Prelude.{◌≡◌, ◌≤◌, ◌<◌, ◌+◌, ◌||◌, ◌++◌, [], true, false, length, map};
-ghost use Rattle.std.specs.Prelude.{IfOk, IfErr, OnErr, OnOk};
+ghost use Rattle.std.specs.Prelude.{IfOk, IfErr, OnErr, OnOk, All};
 ghost use Rattle.std.specs.List.{list_any};
 ghost use Rattle.request_stream.specs.Asks.{asks, sizes, IsAdded, IsCaused};
 ghost use Rattle.request_stream.specs.Reading.{ArePositive};
+ghost use Rattle.request_stream.specs.Room.{IsWithin};
 ghost use Rattle.request_stream.specs.Units.{stamped, units, closing};
 
 use crate::laws::grammar;
@@ -107,6 +108,7 @@ impl<S: Spill + Drop> Stream<S> {
             self.new.over ≡ (self.old.over || list_any closing (map asks us.items))) }
         ensures holds { IfOk result (λ us. self.new.held + sizes us.items ≤ self.old.held
             + length piece.now) }
+        ensures within { IfOk result (λ us. All (IsWithin self.old.limits) us.items) }
         ensures kept { OnOk result (self.new.failed ≡ self.old.failed) }
         ensures fault { OnErr result (self.new.failed ≡ true) }
         ensures cause { IfErr result (λ f. IsCaused S.faults f) }
@@ -133,7 +135,8 @@ impl<S: Spill + Drop> Stream<S> {
 
     /// How much memory the unit under way takes, in bytes.
     pub fn held(&self) -> u64
-        ensures { result ≡ self.now.held }
+        ensures value { result ≡ self.now.held }
+        ensures most { result < self.now.limits.max_head + self.now.limits.inbuf_overflow }
     {
         match &self.state {
             State::Seeking(bytes) => bytes.len() as u64,

@@ -3,7 +3,7 @@ ghost use Rattle.std.specs.Prelude.{◌≡◌, ◌≤◌, ◌<◌, ◌+◌, ◌+
 ghost use Rattle.std.specs.Prelude.{OnOk};
 ghost use Rattle.request_stream.specs.Asks.{asks, sizes, size_of};
 ghost use Rattle.request_stream.specs.Reading.{Closes, GoesOn, IsSound};
-ghost use Rattle.request_stream.specs.Room.{held_of};
+ghost use Rattle.request_stream.specs.Room.{IsWithin, StaysWithin, held_of};
 ghost use Rattle.request_stream.specs.Units.{welcome, refusing};
 ghost use Rattle.request_stream.specs.declared.types.Limits.{Limits as SomeLimits};
 
@@ -19,6 +19,8 @@ fn give<S: Spill + Drop>(unit: Unit<S>, given: &mut Vec<Unit<S>>) -> Result<(), 
     ensures given { OnOk result (map asks given.new.items ≡ map asks given.old.items ++ asks unit
         ∷ []) }
     ensures sizes { OnOk result (sizes given.new.items ≡ sizes given.old.items + size_of unit) }
+    ensures within { (limits : SomeLimits) → IsWithin limits unit → OnOk result
+        (StaysWithin limits given.old.items given.new.items) }
 {
     given.push(unit)?;
     Ok(())
@@ -32,6 +34,8 @@ pub(crate) fn greet<S: Spill + Drop>(
     ensures given { OnOk result (map asks given.new.items
         ≡ map asks given.old.items ++ welcome head.now) }
     ensures sizes { OnOk result (sizes given.new.items ≡ sizes given.old.items) }
+    ensures within { (limits : SomeLimits) → OnOk result
+        (StaysWithin limits given.old.items given.new.items) }
 {
     if head.expects() {
         give(Unit::Continue, given)?;
@@ -51,6 +55,8 @@ pub(crate) fn refuse<S: Spill + Drop>(
     ensures given { IfOk result (λ s. map asks given.new.items
         ≡ map asks given.old.items ++ refusing refusal version bodyless moment ∷ []) }
     ensures sizes { OnOk result (sizes given.new.items ≡ sizes given.old.items) }
+    ensures within { (limits : SomeLimits) → OnOk result
+        (StaysWithin limits given.old.items given.new.items) }
 {
     let refused = Refused {
         refusal,
@@ -85,6 +91,9 @@ pub(crate) fn finish<S: Spill + Drop>(
         IsSound limits s) }
     ensures holds { IfOk result (λ s. held_of s + sizes given.new.items
         ≡ sizes given.old.items + (head.size + body.in_memory)) }
+    ensures within { (limits : SomeLimits) → head.size < limits.max_head →
+        body.in_memory < limits.inbuf_overflow → OnOk result
+        (StaysWithin limits given.old.items given.new.items) }
 {
     let closes = head.closes();
     let length = body.len();

@@ -46,3 +46,7 @@ returns-in_ok-state-in-Done-clause-shuts g c = shuts_closes _ _ _ _ c.in_ok-stat
 pub returns-in_ok-state-in-Bad-clause-shuts : goal.returns-in_ok-state-in-Bad-clause-shuts
 returns-in_ok-state-in-Bad-clause-shuts g c = shuts_refused _ _ c.in_ok-state-in-Bad.state _ _ refl
     refl (ap is_over c.in_ok-state-in-Bad.ensures.over) c.in_ok-state-in-Bad.ensures.given
+
+pub returns-in_ok-state-in-Bad-clause-within : goal.returns-in_ok-state-in-Bad-clause-within
+returns-in_ok-state-in-Bad-clause-within g c =
+    c.in_ok-state-in-Bad.ensures.within c.args.limits.now

@@ -20,6 +20,7 @@ loop-at-preserved g c =
       sound = c.in_ok-step.ensures.sound;
       holds = holds_trans _ c.loop-at.state _ c.loop-at.at c.in_ok-step.step.taken _
           c.loop-at.given.items _ c.loop-at.invariant.holds c.in_ok-step.ensures.holds;
+      small = λ before. c.in_ok-step.ensures.within (c.loop-at.invariant.small before);
       shuts = shuts_trans _ c.loop-at.state _ _ (map asks c.loop-at.given.items) _
           c.loop-at.invariant.shuts c.in_ok-step.ensures.shuts;
       reads = reads_more _ _ _ c.loop-at.state _ _ c.loop-at.at c.in_ok-step.step.taken _ _ _ _
