@@ -1,7 +1,7 @@
 //! The program `waitress-serve`, over the net, the files and the console of the machine.
 #![tactic(auto)]
 
-ghost use Rattle.std.specs.Prelude.{◌≡◌};
+ghost use Rattle.std.specs.Prelude.{◌≡◌, if◌then◌else◌};
 ghost use Rattle.waitress_main.specs.Statuses.{status_for};
 
 use net_real::{DiskTree, FileSpills, MioNet, StdSink};
@@ -16,13 +16,23 @@ const NO_MEMORY: u8 = 5;
 /// The words, the temporary folder's name, the net or its trigger can't be had.
 const NOT_HAD: u8 = 7;
 
+// What the program ends with where a name can't be had.
+fn status_by(no_memory: bool) -> u8
+    ensures { result ≡ (if no_memory then 5 else 7) }
+{
+    if no_memory { NO_MEMORY } else { NOT_HAD }
+}
+
+fn name_status(fault: &io::Error) -> u8 {
+    status_by(fault.kind() == io::ErrorKind::OutOfMemory)
+}
+
 // The words behind the program's name, or the status for want of them.
 fn words<R: std::rt::Env + AllocGlobal>(rt: &R) -> Result<Vec<String>, u8> {
     let mut words = Vec::new(rt.alloc());
     let all = match env::args(rt) {
         Ok(all) => all,
-        Err(fault) if fault.kind() == io::ErrorKind::OutOfMemory => return Err(NO_MEMORY),
-        Err(_) => return Err(NOT_HAD),
+        Err(fault) => return Err(name_status(&fault)),
     };
     for word in all.skip(1) {
         if words.push(word).is_err() {
@@ -50,7 +60,7 @@ fn main(rt: HostRuntime) -> ExitCode {
     };
     let folder = match env::temp_dir(&rt) {
         Ok(folder) => folder,
-        Err(_) => return ExitCode::from(NOT_HAD),
+        Err(fault) => return ExitCode::from(name_status(&fault)),
     };
     let mut net = match MioNet::new(alloc, rt) {
         Ok(net) => net,
