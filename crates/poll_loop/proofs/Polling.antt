@@ -1,5 +1,5 @@
 -- What a poll leaves, and a turn with its poll.
-use Rattle.std.proofs.Common.{◌≡◌, ◌≤◌, ◌+◌, ◌-◌, ◌⊎◌, ◌||◌, inl, inr, ℕ, Bool, true, false, List}
+use Rattle.std.proofs.Common.{◌≡◌, ◌≤◌, ◌||◌, inl, inr, ℕ, Bool, true, false, List}
 use Rattle.std.proofs.Common.{[], ◌∷◌, ◌++◌, Option, None, Some, refl, ap, sym, subst, ◌∙◌, arith}
 use Rattle.std.proofs.Common.{length, map, take, drop}
 use Rattle.std.specs.Prelude.{unwrap_or}
@@ -21,7 +21,6 @@ use Rattle.poll_loop.specs.NoIdle.{AsksNothing, Hosts, NoIdle, Nudges, Serving, 
 use Rattle.poll_loop.specs.NoIdle.{is_some_due, views}
 use Rattle.poll_loop.specs.Seat.{Eyes, MarkHolds, SeatRests, viewed}
 use Rattle.poll_loop.specs.Server.{Carries, Steps}
-use Rattle.poll_loop.specs.Settings.{is_below}
 use Rattle.poll_loop.specs.declared.seat.Mark.{Mark}
 use Rattle.poll_loop.specs.declared.seat.Mark.TheVariants as mark
 use Rattle.poll_loop.specs.declared.seat.Seat.{Seat}
