@@ -9,8 +9,8 @@ pub enum Shape {
     Small,
     /// A GET with a head of twelve fields.
     Twelve,
-    /// A GET with a head of 40 fields.
-    Browser,
+    /// A GET with a head of so many fields.
+    Fields(u32),
     /// A body of so many bytes, by its length.
     Fixed(usize),
     /// About a million bytes in so many chunks of a size, which is written in hexadecimal digits.
@@ -22,10 +22,12 @@ pub enum Shape {
 }
 
 /// Each shape with the word that names it.
-pub const SHAPES: [(&str, Shape); 8] = [
+pub const SHAPES: [(&str, Shape); 10] = [
     ("small", Shape::Small),
     ("twelve", Shape::Twelve),
-    ("browser", Shape::Browser),
+    ("browser", Shape::Fields(40)),
+    ("fields-100", Shape::Fields(100)),
+    ("fields-400", Shape::Fields(400)),
     ("fixed-64k", Shape::Fixed(65_536)),
     ("fixed", Shape::Fixed(1_000_000)),
     (
@@ -75,12 +77,12 @@ const FIXED: &[u8] = b"POST / HTTP/1.1\r\nHost: a\r\nContent-Length: ";
 
 const CHUNKED: &[u8] = b"POST / HTTP/1.1\r\nHost: a\r\nTransfer-Encoding: chunked\r\n\r\n";
 
-fn browser(alloc: Global) -> Result<Vec<u8>, AllocError> {
+fn fields(alloc: Global, count: u32) -> Result<Vec<u8>, AllocError> {
     let mut text = Vec::from_slice(
         alloc,
         b"GET /index.html?a=1&b=2 HTTP/1.1\r\nHost: www.example.org\r\n",
     )?;
-    for number in 1..40u32 {
+    for number in 1..count {
         text.extend_from_slice(b"X-Field-")?;
         text.extend_from_slice(Buffer::new().format(number).as_bytes())?;
         text.extend_from_slice(b": text/html,application/xml;q=0.9\r\n")?;
@@ -126,7 +128,7 @@ impl Shape {
         match self {
             Shape::Small => Vec::from_slice(alloc, SMALL),
             Shape::Twelve => twelve(alloc),
-            Shape::Browser => browser(alloc),
+            Shape::Fields(count) => fields(alloc, count),
             Shape::Fixed(size) => fixed(alloc, size),
             Shape::Chunked {
                 chunks,

@@ -1,7 +1,7 @@
 -- Fields that are combined one by one.
 use Rattle.std.proofs.Common.{◌≡◌, ℕ, Bool, true, false, List, [], ◌∷◌, ◌++◌, refl, ap, sym, ◌∙◌}
 use Rattle.std.proofs.Common.{cond}
-use Rattle.std.specs.Prelude.{not, ◌&&◌, ◌||◌, filter, codes}
+use Rattle.std.specs.Prelude.{not, filter, codes}
 use Rattle.std.specs.List.{list_any}
 use Rattle.std.specs.Str.{bytes_eq}
 use Rattle.std.proofs.lemmas.Slice.Eq.{bytes_eq-Decides}
@@ -12,15 +12,7 @@ use Rattle.head_grammar.specs.declared.types.Field.{Field}
 use Rattle.head_grammar.specs.Combining.{with_value, added}
 use Rattle.head_grammar.specs.FieldLines.{has_name, further_values, with_further, combined}
 use Rattle.head_grammar.specs.FieldLines.{names_differ}
-use Rattle.head_grammar.proofs.Names.{eq_sym}
-
-neither : (s t : Bool) → (s || t) ≡ false → (s ≡ false) × (t ≡ false)
-neither true t e = cc
-neither false t e = (refl, e)
-
-apart : (s t : Bool) → (not s && t) ≡ true → (s ≡ false) × (t ≡ true)
-apart true t e = cc
-apart false t e = (refl, e)
+use Rattle.head_grammar.proofs.Names.{apart, eq_sym, neither}
 
 -- the fields of other names
 abbrev others : List ℕ → List Field → List Field

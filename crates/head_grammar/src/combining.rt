@@ -1,12 +1,16 @@
 //! Fields of equal name as one.
-ghost use Rattle.std.specs.Prelude.{◌≡◌, IfOk, OnOk};
-ghost use Rattle.head_grammar.specs.Combining.{ArePlaces, added, with_value};
+ghost use Rattle.std.specs.Prelude.{◌≡◌, ◌↔◌, IfOk, IsSorted, IsTrue, OnOk, map};
+ghost use Rattle.std.specs.Cmp.Lexicographic.{slice_cmp};
+ghost use Rattle.std.specs.List.{IsDistinct};
+ghost use Rattle.std.specs.Ordering.{nat_cmp};
+ghost use Rattle.std.specs.Str.{bytes_eq};
+ghost use Rattle.head_grammar.specs.Combining.{ArePlaces, added, names_of, with_value};
 ghost use Rattle.head_grammar.specs.FieldLines as spec;
 
 use crate::{Field, FieldList, Fields};
 use outside::Bytes;
 use std::alloc::{AllocError, Global};
-use std::collections::{BTreeMap, BTreeSet};
+use std::collections::BTreeMap;
 use std::mem;
 
 /// Up to how many names are compared each with each.
@@ -24,17 +28,35 @@ fn few_names_differ(fields: &Fields<'_>) -> bool
     true
 }
 
-// Whatever the names are, a set of them is searched by their order.
+fn names_of<'a>(alloc: Global, fields: &Fields<'a>) -> Result<Vec<&'a [u8]>, AllocError>
+    ensures { IfOk result (λ names. map (λ name. name.now) names.items ≡ names_of fields.now) }
+{
+    let mut names = Vec::with_capacity(alloc, fields.len())?;
+    for (name, _) in fields.iter() {
+        names.push(name)?;
+    }
+    Ok(names)
+}
+
+fn neighbours_differ(names: &[&[u8]]) -> bool
+    requires { IsSorted (λ a b. slice_cmp nat_cmp a.now b.now) names.now }
+    ensures { IsTrue result ↔ IsDistinct bytes_eq (map (λ name. name.now) names.now) }
+{
+    for later in 1..names.len() {
+        if names[later - 1] == names[later] {
+            return false;
+        }
+    }
+    true
+}
+
+// Whatever the names are, they are compared with their neighbours once they are in order.
 fn many_names_differ(alloc: Global, fields: &Fields<'_>) -> Result<bool, AllocError>
     ensures { IfOk result (λ differ. differ ≡ spec.names_differ fields.now) }
 {
-    let mut names = BTreeSet::new(alloc);
-    for (name, _) in fields.iter() {
-        if !names.insert(name)? {
-            return Ok(false);
-        }
-    }
-    Ok(true)
+    let mut names = names_of(alloc, fields)?;
+    names.sort_unstable();
+    Ok(neighbours_differ(&names))
 }
 
 fn names_differ(alloc: Global, fields: &Fields<'_>) -> Result<bool, AllocError>
