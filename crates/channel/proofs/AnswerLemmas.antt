@@ -12,9 +12,9 @@ use Rattle.task_core.specs.Answer.{Answer, answer, answer_from, layout_closes, l
 use Rattle.task_core.specs.Answer.{request_of}
 use Rattle.task_core.specs.Errors.{error_answer, proxy_answer}
 use Rattle.task_core.specs.Steps.{Ends, Follows, GoesBy, remaining, text_of}
-use Rattle.task_core.specs.declared.request.Request.{Request}
+use Rattle.task_core.specs.declared.task.Request.{Request}
 use Rattle.task_core.specs.declared.task.Task.{Task}
-use Rattle.task_core.specs.declared.wrote.Wrote.{Wrote}
+use Rattle.task_core.specs.declared.task.Wrote.{Wrote}
 use Rattle.wsgi.specs.Environ.{environ_of}
 use Rattle.wsgi.specs.declared.site.Site.{Site}
 use Rattle.wsgi.specs.declared.step.Step.{Step}

@@ -7,7 +7,7 @@ use Rattle.task_core.specs.Answer.{Answer}
 use Rattle.task_core.specs.Chains.{Answers, Takes, TakesAll, TakesScript, Unless, ended_by, joined}
 use Rattle.task_core.specs.Steps.{Ends, Follows, is_under_way, onto, remaining, text_of}
 use Rattle.task_core.specs.declared.task.Task.{Task}
-use Rattle.task_core.specs.declared.wrote.Wrote.{Wrote}
+use Rattle.task_core.specs.declared.task.Wrote.{Wrote}
 use Rattle.wsgi.specs.declared.step.Step.{Step}
 
 -- a part that says nothing of the end leaves it to those behind it

@@ -8,7 +8,7 @@ use Rattle.task_core.specs.Remaining.{before_break, breaks, is_break}
 use Rattle.task_core.specs.Scripts.{failure_behind, has_bytes, has_head, has_start, is_failure}
 use Rattle.task_core.specs.Scripts.{is_filled, is_start}
 use Rattle.task_core.specs.Starts.{is_valid}
-use Rattle.task_core.specs.declared.request.Request.{Request}
+use Rattle.task_core.specs.declared.task.Request.{Request}
 use Rattle.wsgi.specs.declared.step.Step.{Step}
 use Rattle.wsgi.specs.declared.step.Step.TheVariants.{Start, Piece, Whole, Fail}
 use Rattle.task_core.proofs.Testing.{and_false, none_less, one_less, or_true}

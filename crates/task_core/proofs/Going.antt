@@ -9,11 +9,11 @@ use Rattle.task_core.specs.Scripts.{has_bytes, pieces}
 use Rattle.task_core.specs.Sending.{ending, left_behind, passed}
 use Rattle.task_core.specs.Steps.{Follows, Goes, GoesBy, byte_string, has_ended, onto, text_of}
 use Rattle.task_core.specs.declared.layout.Layout.{Layout}
-use Rattle.task_core.specs.declared.request.Request.{Request}
+use Rattle.task_core.specs.declared.task.Request.{Request}
 use Rattle.task_core.specs.declared.starts.Given.{Given}
-use Rattle.task_core.specs.declared.state.State.{State}
-use Rattle.task_core.specs.declared.state.State.TheVariants.{Opening, Sending, Ended}
-use Rattle.task_core.specs.declared.wrote.Wrote.{Wrote}
+use Rattle.task_core.specs.declared.task.State.{State}
+use Rattle.task_core.specs.declared.task.State.TheVariants.{Opening, Sending, Ended}
+use Rattle.task_core.specs.declared.task.Wrote.{Wrote}
 use Rattle.wsgi.specs.declared.step.Step.{Step}
 use Rattle.task_core.proofs.Openings.{begun_answer, end_answer, failure_answer}
 use Rattle.task_core.proofs.Pieces.{nothing_left, nothing_passed, piece_closes, piece_sent}

@@ -8,7 +8,7 @@ use Rattle.task_core.specs.ResponseHead.{head_text, recased_field, sorted_by_nam
 use Rattle.task_core.specs.ResponseHead.{written}
 use Rattle.task_core.specs.Starts.{is_named}
 use Rattle.task_core.specs.declared.layout.Layout.{Layout}
-use Rattle.task_core.specs.declared.request.Request.{Request}
+use Rattle.task_core.specs.declared.task.Request.{Request}
 
 written_is : (fields : List Field) → map trimmed_field (map recased_field fields) ≡ map written
     fields

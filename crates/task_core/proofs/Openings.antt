@@ -13,9 +13,9 @@ use Rattle.task_core.specs.Sending.{ending, left_behind, passed}
 use Rattle.task_core.specs.Starts.{is_valid}
 use Rattle.task_core.specs.Steps.{byte_string, onto}
 use Rattle.task_core.specs.declared.layout.Layout.{Layout}
-use Rattle.task_core.specs.declared.request.Request.{Request}
+use Rattle.task_core.specs.declared.task.Request.{Request}
 use Rattle.task_core.specs.declared.starts.Given.{Given}
-use Rattle.task_core.specs.declared.state.State.TheVariants.{Sending}
+use Rattle.task_core.specs.declared.task.State.TheVariants.{Sending}
 use Rattle.wsgi.specs.declared.step.Step.{Step}
 use Rattle.wsgi.specs.declared.step.Step.TheVariants.{Start, Piece, Whole, Fail}
 use Rattle.task_core.proofs.Failing.{answer_behind, answer_is, at_end, broken_behind, failed_step}

@@ -19,7 +19,7 @@ use Rattle.task_core.specs.declared.errors.Cause.TheVariants.{Application}
 use Rattle.task_core.specs.declared.layout.Layout.{Layout}
 use Rattle.task_core.specs.declared.layout.Layout.TheVariants.{NoContent, NotModified, HeadOnly}
 use Rattle.task_core.specs.declared.layout.Layout.TheVariants.{Known, Chunked, UntilClose}
-use Rattle.task_core.specs.declared.request.Request.{Request}
+use Rattle.task_core.specs.declared.task.Request.{Request}
 use Rattle.wsgi.specs.declared.step.Step.{Step}
 use Rattle.wsgi.specs.declared.step.Step.TheVariants.{Start, Piece, Whole, Fail}
 

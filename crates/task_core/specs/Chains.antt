@@ -7,7 +7,7 @@ use Rattle.head_grammar.specs.Heads.{Head}
 use Rattle.task_core.specs.Answer.{Answer, answer, request_of}
 use Rattle.task_core.specs.Steps.{Ends, GoesBy, is_under_way, remaining, text_of}
 use Rattle.task_core.specs.declared.task.Task.{Task}
-use Rattle.task_core.specs.declared.wrote.Wrote.{Wrote}
+use Rattle.task_core.specs.declared.task.Wrote.{Wrote}
 use Rattle.wsgi.specs.declared.step.Step.{Step}
 
 -- a call of `step` that is answered: what it requires, and what it ensures

@@ -1,4 +1,4 @@
--- Lines that are borrowed, as fields.
+-- Internal: lines that are borrowed, as fields.
 use Rattle.std.specs.Prelude.{List, map}
 use Rattle.head_grammar.specs.declared.types.Field.{Field}
 use Rattle.task_core.specs.declared.heads.Line.{Line}

@@ -1,4 +1,4 @@
--- The table of the names that are hop-by-hop.
+-- Internal: the table of the names that are hop-by-hop.
 use Rattle.std.specs.Prelude.{ℕ, List, map}
 use Rattle.task_core.specs.Starts.{hop_by_hop}
 

@@ -1,14 +1,14 @@
--- What a task still gives for the steps that are left.
+-- Internal: what a task still gives for the steps that are left.
 use Rattle.std.specs.Prelude.{Bool, true, false, ◌||◌, List, [], ◌∷◌, ◌++◌, Option, Some, None}
 use Rattle.std.specs.Prelude.{if◌then◌else◌}
 use Rattle.std.specs.List.{list_any}
 use Rattle.task_core.specs.Answer.{Answer, answer, body_bytes, layout_closes}
 use Rattle.task_core.specs.Scripts.{pieces}
 use Rattle.task_core.specs.declared.layout.Layout.{Layout}
-use Rattle.task_core.specs.declared.request.Request.{Request}
+use Rattle.task_core.specs.declared.task.Request.{Request}
 use Rattle.task_core.specs.declared.starts.Given.{Given}
-use Rattle.task_core.specs.declared.state.State.{State}
-use Rattle.task_core.specs.declared.state.State.TheVariants.{Opening, Sending, Ended}
+use Rattle.task_core.specs.declared.task.State.{State}
+use Rattle.task_core.specs.declared.task.State.TheVariants.{Opening, Sending, Ended}
 use Rattle.wsgi.specs.declared.step.Step.{Step}
 use Rattle.wsgi.specs.declared.step.Step.TheVariants.{Start, Piece, Whole, Fail}
 

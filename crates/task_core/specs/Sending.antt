@@ -1,4 +1,4 @@
--- How the bytes of a piece are sent, and what is left of the layout behind them.
+-- Internal: how the bytes of a piece are sent, and what is left of the layout behind them.
 use Rattle.std.specs.Prelude.{ℕ, ◌-◌, List, [], length, take, codes, if◌then◌else◌}
 use Rattle.task_core.specs.Answer.{chunk}
 use Rattle.task_core.specs.Scripts.{has_bytes}

@@ -3,11 +3,11 @@ use Rattle.std.specs.Prelude.{◌≡◌, Bool, true, false, not, List, [], ◌�
 use Rattle.std.specs.Prelude.{None, is_some}
 use Rattle.task_core.specs.Answer.{Answer}
 use Rattle.task_core.specs.Remaining.{rest_by}
-use Rattle.task_core.specs.declared.request.Request.{Request}
-use Rattle.task_core.specs.declared.state.State.{State}
-use Rattle.task_core.specs.declared.state.State.TheVariants.{Opening, Sending, Ended}
+use Rattle.task_core.specs.declared.task.Request.{Request}
+use Rattle.task_core.specs.declared.task.State.{State}
+use Rattle.task_core.specs.declared.task.State.TheVariants.{Opening, Sending, Ended}
 use Rattle.task_core.specs.declared.task.Task.{Task}
-use Rattle.task_core.specs.declared.wrote.Wrote.{Wrote}
+use Rattle.task_core.specs.declared.task.Wrote.{Wrote}
 use Rattle.wsgi.specs.declared.step.Step.{Step}
 use Rattle.wsgi.specs.declared.step.Step.TheVariants.{Piece, Whole}
 

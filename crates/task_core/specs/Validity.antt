@@ -1,4 +1,4 @@
--- Whether what is given is kept.
+-- Internal: whether what is given is kept.
 use Rattle.std.specs.Prelude.{◌≡◌, ℕ, false, List, Option, Some, None}
 use Rattle.head_grammar.specs.declared.types.Field.{Field}
 use Rattle.task_core.specs.Starts.{is_valid}

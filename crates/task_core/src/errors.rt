@@ -22,7 +22,7 @@ const BODY_SIZE: usize = 192;
 
 /// Why the server answers itself.
 #[derive(Clone, Copy, Debug)]
-pub enum Cause {
+pub(crate) enum Cause {
     Refused(Refusal),
     /// A field of this kind, from a trusted proxy, is malformed.
     Proxy(Kind),

@@ -8,10 +8,9 @@ ghost use Rattle.task_core.specs.ResponseHead as head;
 ghost use Rattle.task_core.specs.Starts.{is_named};
 
 use crate::layout::Layout;
-use crate::lines::{push_field, push_status_line};
-use crate::names::recase;
-use crate::request::Request;
+use crate::lines::{push_field, push_status_line, recase};
 use crate::starts::{Given, is_named};
+use crate::task::Request;
 use head_grammar::{Field, Version, trim};
 use imf_fixdate::date_text;
 use itoa::Buffer;

@@ -1,16 +1,16 @@
 //! How a response tells where its body ends.
-ghost use Rattle.std.specs.Prelude.{◌≡◌, ◌++◌, ◌-◌, ◌||◌, [], OnOk, IfOk, length, take};
+ghost use Rattle.std.specs.Fmt.{digit_glyph, digits};
+ghost use Rattle.std.specs.Prelude.{◌≡◌, ◌++◌, ◌-◌, ◌<◌, ◌||◌, [], OnOk, IfOk, length, take, true};
 ghost use Rattle.task_core.specs.Answer as spec;
 ghost use Rattle.task_core.specs.Sending as sending;
 
-use crate::hex::push_hex;
-use crate::request::Request;
+use crate::task::Request;
 use head_grammar::Version;
 use std::alloc::AllocError;
 
 /// How a response tells where its body ends (RFC 9112, section 6.3).
 #[derive(Clone, Copy, Debug)]
-pub enum Layout {
+pub(crate) enum Layout {
     /// Status 204.
     NoContent,
     /// Status 304, and the length that it declares.
@@ -27,7 +27,12 @@ pub enum Layout {
 impl Layout {
     /// The layout of a response, by the length that its Start declares and the one that is told
     /// otherwise.
-    pub fn new(request: &Request, status: &[u8], declared: Option<u64>, told: Option<u64>) -> Layout
+    pub(crate) fn new(
+        request: &Request,
+        status: &[u8],
+        declared: Option<u64>,
+        told: Option<u64>,
+    ) -> Layout
         ensures { result ≡ spec.layout_by request.now status.now declared told }
     {
         let known = declared.or(told);
@@ -48,7 +53,7 @@ impl Layout {
 
     /// Frames the bytes of a piece: what stands before them goes to the end of the head. The answer
     /// is the layout of what follows.
-    pub fn pass(self, head: &mut Vec<u8>, bytes: &mut Vec<u8>) -> Result<Layout, AllocError>
+    pub(crate) fn pass(self, head: &mut Vec<u8>, bytes: &mut Vec<u8>) -> Result<Layout, AllocError>
         ensures sent { OnOk result (head.new.items ++ bytes.new.items ≡ head.old.items ++
             sending.passed self bytes.old.items) }
         ensures left { IfOk result (λ layout. layout ≡ sending.left_behind self bytes.old.items) }
@@ -65,7 +70,7 @@ impl Layout {
     }
 
     /// What stands behind the last piece.
-    pub fn ending(self) -> &'static [u8]
+    pub(crate) fn ending(self) -> &'static [u8]
         ensures { result.now ≡ sending.ending self }
     {
         match self {
@@ -75,14 +80,14 @@ impl Layout {
     }
 
     /// Whether the length of the body isn't known before its end.
-    pub fn is_unknown(self) -> bool
+    pub(crate) fn is_unknown(self) -> bool
         ensures { result ≡ spec.is_unknown self }
     {
         matches!(self, Layout::Chunked | Layout::UntilClose)
     }
 
     /// Whether the connection closes behind a body that ends here.
-    pub fn closes(self, request: &Request) -> bool
+    pub(crate) fn closes(self, request: &Request) -> bool
         ensures { result ≡ (request.now.closes || spec.layout_closes self []) }
     {
         request.closes || self.is_unfinished()
@@ -109,6 +114,28 @@ fn pass_known(left: u64, bytes: &mut Vec<u8>) -> Layout
         bytes.truncate(left as usize);
     }
     Layout::Known(left.saturating_sub(size))
+}
+
+fn glyph(digit: u8) -> u8
+    requires { digit < 16 }
+    ensures { result ≡ digit_glyph true digit }
+{
+    if digit < 10 {
+        b'0' + digit
+    } else {
+        b'A' + (digit - 10)
+    }
+}
+
+// A number in upper-case hexadecimal digits, without zeros in front.
+fn push_hex(text: &mut Vec<u8>, number: usize) -> Result<(), AllocError>
+    ensures { OnOk result (text.new.items ≡ text.old.items ++ digits 16 true number) }
+{
+    if number >= 16 {
+        push_hex(text, number / 16)?;
+    }
+    text.push(glyph((number % 16) as u8))?;
+    Ok(())
 }
 
 // A chunk, where there are bytes: the last chunk alone has none.

@@ -1,4 +1,4 @@
-//! Status lines and field lines (RFC 9112, sections 4 and 5).
+//! Status lines, field lines and their names (RFC 9112, sections 4 and 5).
 ghost use Rattle.std.specs.Prelude.{◌≡◌, ◌++◌, OnOk};
 ghost use Rattle.task_core.specs.ResponseHead as head;
 ghost use Rattle.task_core.specs.Errors as spec;
@@ -51,4 +51,19 @@ pub(crate) fn push_length(text: &mut Vec<u8>, length: usize) -> Result<(), Alloc
         b"Content-Length",
         Buffer::new().format(length).as_bytes(),
     )
+}
+
+/// Raises the first byte of each part between hyphens, where it is a letter, and lowers the others.
+pub(crate) fn recase(name: &mut [u8])
+    ensures { name.new ≡ head.recased name.old }
+{
+    let mut first = true;
+    for byte in name.iter_mut() {
+        *byte = if first {
+            byte.to_ascii_uppercase()
+        } else {
+            byte.to_ascii_lowercase()
+        };
+        first = *byte == b'-';
+    }
 }

@@ -3,16 +3,14 @@ ghost use Rattle.std.specs.Prelude.{◌≡◌, ◌&&◌, [], IfOk, IsTrue, if◌
 ghost use Rattle.task_core.specs.Answer as spec;
 ghost use Rattle.task_core.specs.Steps.{Goes, byte_string};
 ghost use Rattle.task_core.specs.Scripts.{has_bytes};
-ghost use Rattle.task_core.specs.declared.state.State.TheVariants as state;
+ghost use Rattle.task_core.specs.declared.task.State.TheVariants as state;
 ghost use Rattle.wsgi.specs.declared.step.Step.TheVariants as step;
 
 use crate::errors::{Cause, ErrorAnswer, error_text};
 use crate::heads::response_head;
 use crate::layout::Layout;
-use crate::request::Request;
 use crate::starts::Given;
-use crate::state::State;
-use crate::wrote::Wrote;
+use crate::task::{Request, State, Wrote};
 use head_grammar::Field;
 use outside::{Bytes, Items};
 use std::alloc::{AllocError, Global};

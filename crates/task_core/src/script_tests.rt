@@ -2,7 +2,7 @@
 ghost use Rattle.std.specs.Prelude.{◌≡◌, ◌++◌, List, IfOk, IsTrue, OnOk};
 ghost use Rattle.task_core.specs.Chains.{TakesScript, ended_by, joined};
 ghost use Rattle.task_core.specs.Steps.{is_under_way, text_of};
-ghost use Rattle.task_core.specs.declared.wrote.Wrote.{Wrote as AWrote};
+ghost use Rattle.task_core.specs.declared.task.Wrote.{Wrote as AWrote};
 
 use crate::{Task, Wrote};
 use head_grammar::{Field, Head, Parsed, head_end, read_head};

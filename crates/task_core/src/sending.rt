@@ -2,12 +2,10 @@
 ghost use Rattle.std.specs.Prelude.{◌≡◌, [], IfOk, true};
 ghost use Rattle.task_core.specs.Sending as sending;
 ghost use Rattle.task_core.specs.Steps.{Goes, text_of};
-ghost use Rattle.task_core.specs.declared.state.State.TheVariants as state;
+ghost use Rattle.task_core.specs.declared.task.State.TheVariants as state;
 
 use crate::layout::Layout;
-use crate::request::Request;
-use crate::state::State;
-use crate::wrote::Wrote;
+use crate::task::{Request, State, Wrote};
 use outside::Bytes;
 use std::alloc::{AllocError, Global};
 use wsgi::Step;

@@ -14,10 +14,10 @@ use outside::{Bytes, Items};
 
 /// A status and fields that are valid, and the length that the fields declare.
 #[derive(Debug, Drop)]
-pub struct Given {
-    pub status: Bytes,
-    pub fields: Items<Field>,
-    pub declared: Option<u64>,
+pub(crate) struct Given {
+    pub(crate) status: Bytes,
+    pub(crate) fields: Items<Field>,
+    pub(crate) declared: Option<u64>,
     pub ghost valid: { IsTrue (is_valid status fields) },
     pub ghost known: { declared ≡ declared_length fields } by { Prim.hlevel props },
 }
@@ -121,7 +121,7 @@ impl Given {
 
     /// What is given, where it is valid.
     #[tactic(auto, unfolding(crate::specs::Starts::is_valid))]
-    pub fn new(status: Bytes, fields: Items<Field>) -> Option<Given>
+    pub(crate) fn new(status: Bytes, fields: Items<Field>) -> Option<Given>
         ensures { GivesValid status fields result }
     {
         if !is_status(status.as_slice()) || !are_allowed(fields.as_slice()) {

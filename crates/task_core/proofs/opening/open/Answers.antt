@@ -1,7 +1,7 @@
 use Rattle.std.proofs.Common.{◌≡◌, Option, Some, sym, subst}
 use Rattle.std.specs.Prelude.{IfOk}
 use Rattle.task_core.specs.Steps.{Goes}
-use Rattle.task_core.specs.declared.state.State.TheVariants.{Opening}
+use Rattle.task_core.specs.declared.task.State.TheVariants.{Opening}
 use Rattle.wsgi.specs.declared.step.Step.{Step}
 use Rattle.wsgi.specs.declared.step.Step.TheVariants.{Fail}
 use Rattle.task_core.proofs.Going.{failed_goes}

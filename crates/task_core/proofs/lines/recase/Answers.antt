@@ -2,7 +2,7 @@ use Rattle.std.proofs.Common.{◌≡◌, ◌≤◌, ◌∙◌, ◌++◌, [], ap,
 use Rattle.std.proofs.Common.{arith}
 use Rattle.std.proofs.lemmas.List.{take_all, drop_all}
 use Rattle.task_core.proofs.Recasing.{cased, recased_is}
-use Rattle.task_core.proofs.names.recase.Goals as goal
+use Rattle.task_core.proofs.lines.recase.Goals as goal
 
 pub returns : goal.returns
 returns c =

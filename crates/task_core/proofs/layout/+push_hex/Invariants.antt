@@ -1,4 +1,4 @@
-use Rattle.task_core.proofs.hex.+push_hex.Given as goal
+use Rattle.task_core.proofs.layout.+push_hex.Given as goal
 
 abbrev pub decreases-push_hex : goal.decreases-push_hex
 decreases-push_hex l = l.number
