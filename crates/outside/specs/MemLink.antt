@@ -3,7 +3,7 @@ use Rattle.std.specs.Prelude.{◌≡◌, ◌<◌, ◌≤◌, ◌+◌, ◌-◌, �
 use Rattle.std.specs.Prelude.{length, take, map, Option, None, Some, if◌then◌else◌, MatchBool}
 use Rattle.std.specs.Prelude.{slice_get}
 use Rattle.outside.specs.Causes.{raised}
-use Rattle.outside.specs.Link.{LinkState}
+use Rattle.outside.specs.Link.{LinkState, opened}
 use Rattle.outside.specs.Memory.{is_listed}
 use Rattle.outside.specs.declared.types.Recv.{Recv}
 use Rattle.outside.specs.declared.types.Recv.TheVariants as got
@@ -22,6 +22,19 @@ pub record MemLinkState : Type 0 where
   pub recvs : ℕ
   pub reads : ℕ
   pub sends : ℕ
+
+-- a link of this number and plan, before any call
+abbrev pub new_link : ℕ → ℕ → LinkPlan → MemLinkState
+new_link key now plan = record {
+  key = key;
+  plan = plan;
+  state = opened now;
+  faults = 0;
+  starved = 0;
+  recvs = 0;
+  reads = 0;
+  sends = 0;
+}
 
 -- at most this many, where there is a limit
 abbrev pub within : Option ℕ → ℕ → ℕ

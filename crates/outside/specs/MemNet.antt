@@ -1,15 +1,14 @@
 -- A net in memory.
-use Rattle.std.specs.Prelude.{◌≡◌, ◌≤◌, ◌<◌, ◌+◌, ◌++◌, ◌&&◌, ◌==◌, ℕ, Bool, IsTrue, false, is_none}
-use Rattle.std.specs.Prelude.{is_some, List, [], length, map, position, remove, All, Contains}
+use Rattle.std.specs.Prelude.{◌≡◌, ◌≤◌, ◌<◌, ◌+◌, ◌++◌, ◌&&◌, ◌==◌, ℕ, Bool, IsTrue, is_none}
+use Rattle.std.specs.Prelude.{is_some, List, length, map, position, remove, All, Contains}
 use Rattle.std.specs.Prelude.{IsPermutation, Option, None, Some, slice_get, nat_lt, nat_le, Result}
 use Rattle.std.specs.Prelude.{Ok, Err}
 use Rattle.std.specs.Option.{ForSome, IsSomeAnd}
 use Rattle.outside.specs.Causes.{raised}
-use Rattle.outside.specs.Link.{opened}
 use Rattle.outside.specs.Memory.{is_listed}
-use Rattle.outside.specs.MemLink.{MemLinkState}
+use Rattle.outside.specs.MemLink.{new_link}
 use Rattle.outside.specs.Moments.{moment_at}
-use Rattle.outside.specs.Net.{NetState, Poll}
+use Rattle.outside.specs.Net.{NetState, Poll, unasked}
 use Rattle.outside.specs.declared.mem_link.MemLink.{MemLink}
 use Rattle.outside.specs.declared.plans.LinkPlan.{LinkPlan}
 use Rattle.outside.specs.declared.plans.NetPlan.{NetPlan}
@@ -44,19 +43,7 @@ pub record MemNetState : Type 0 where
 abbrev pub fresh : NetPlan → MemNetState
 fresh plan = record {
   plan = plan;
-  state = record {
-    closed = [];
-    live = 0;
-    stopped = false;
-    quiet = is_none plan.stop_at;
-    bound = None;
-    given = [];
-    polls = 0;
-    first = None;
-    last = None;
-    asked = 0;
-    put_off = 0;
-  };
+  state = unasked (is_none plan.stop_at);
   waiting = plan.comers;
   cleared = 0;
   found = None;
@@ -121,19 +108,6 @@ pub record KeepsToNetPlan (net : MemNetState) : Type 0 where
 abbrev pub found_after : Result Turn Failed → MemNetState → Option Found
 found_after (Ok turn) old = Some (record { number = old.state.polls; waiting = old.waiting })
 found_after (Err _) old = old.found
-
--- a link of this number and plan, before any call
-abbrev pub new_link : ℕ → ℕ → LinkPlan → MemLinkState
-new_link key now plan = record {
-  key = key;
-  plan = plan;
-  state = opened now;
-  faults = 0;
-  starved = 0;
-  recvs = 0;
-  reads = 0;
-  sends = 0;
-}
 
 -- accept gives the first comer of the turns so far
 pub record GivesFirst (now : ℕ) (given : MemLink × Peer) (old new : MemNetState) : Type 0 where

@@ -2,7 +2,7 @@
 use Rattle.std.specs.Prelude.{◌≡◌, ◌⊎◌, ℕ, Bool, IsTrue, List, [], unwrap_or, slice_get, nat_eq}
 use Rattle.std.specs.Prelude.{Result, OnErr, OnOk, IsErr}
 use Rattle.std.specs.List.{list_any}
-use Rattle.outside.specs.Causes.{raised}
+use Rattle.outside.specs.Causes.{faults_after, raised}
 
 -- a number stands in a list
 abbrev pub is_listed : List ℕ → ℕ → Bool
@@ -28,6 +28,13 @@ pub record MemSinkState : Type 0 where
   -- how many calls were refused memory
   pub starved : ℕ
 
+-- a sink in memory after one more call, but for what was written and the refused growths
+abbrev pub sink_after : {T E : Type 0} → Result T E → MemSinkState → MemSinkState
+sink_after result old = record old {
+  calls = raised old.calls;
+  faults = faults_after result old.faults;
+}
+
 -- a spill in memory
 pub record MemSpillState : Type 0 where
   -- the numbers of the calls that fail
@@ -38,6 +45,13 @@ pub record MemSpillState : Type 0 where
   pub faults : ℕ
   -- how many calls were refused memory
   pub starved : ℕ
+
+-- a spill in memory after one more call, but for what it holds and the refused growths
+abbrev pub spill_after : {T E : Type 0} → Result T E → MemSpillState → MemSpillState
+spill_after result old = record old {
+  calls = raised old.calls;
+  faults = faults_after result old.faults;
+}
 
 -- where spills in memory come from
 pub record MemSpillsState : Type 0 where

@@ -1,6 +1,6 @@
 -- What a net tells, and what its calls do to it.
 use Rattle.std.specs.Prelude.{◌≡◌, ◌≤◌, ◌+◌, ℕ, Bool, IsTrue, List, [], ◌∷◌, ◌++◌, Option, None}
-use Rattle.std.specs.Prelude.{Some, unwrap_or, Result, Ok, Err}
+use Rattle.std.specs.Prelude.{Some, unwrap_or, Result, Ok, Err, false}
 use Rattle.outside.specs.Causes.{Rose, raised}
 use Rattle.outside.specs.declared.types.Failed.{Failed}
 use Rattle.outside.specs.declared.types.NetFault.{NetFault}
@@ -42,6 +42,22 @@ pub record NetState (L P : Type 0) : Type 0 where
   -- how many calls of accept there were, and how many were answered by None
   pub asked : ℕ
   pub put_off : ℕ
+
+-- a net before any call, which is quiet or not
+abbrev pub unasked : {L P : Type 0} → Bool → NetState L P
+unasked quiet = record {
+  closed = [];
+  live = 0;
+  stopped = false;
+  quiet = quiet;
+  bound = None;
+  given = [];
+  polls = 0;
+  first = None;
+  last = None;
+  asked = 0;
+  put_off = 0;
+}
 
 -- a want may be met only where it asks
 pub record MayOnlyAsAsked (want : Want) : Type 0 where

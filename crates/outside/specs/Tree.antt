@@ -3,6 +3,7 @@ use Rattle.std.specs.Prelude.{ℕ, List, map, filter, find, nat_eq, Option, None
 use Rattle.std.specs.Prelude.{Err}
 use Rattle.std.specs.Option.{option_map}
 use Rattle.std.specs.Cmp.Lexicographic.{pointwise}
+use Rattle.outside.specs.Causes.{faults_after, raised}
 use Rattle.outside.specs.declared.types.Failed.{Failed}
 
 -- the content of the first file of this name
@@ -25,6 +26,13 @@ pub record MemEntryState : Type 0 where
   -- how many calls there were
   pub calls : ℕ
   pub faults : ℕ
+
+-- an entry in memory after one more call, but for its size
+abbrev pub entry_after : {T E : Type 0} → Result T E → MemEntryState → MemEntryState
+entry_after result old = record old {
+  calls = raised old.calls;
+  faults = faults_after result old.faults;
+}
 
 -- a tree in memory
 pub record MemTreeState : Type 0 where

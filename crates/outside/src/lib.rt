@@ -5,6 +5,7 @@
 //! rehearsals.
 #![tactic(auto)]
 
+mod answers;
 mod bytes;
 mod fails;
 mod items;
@@ -27,6 +28,7 @@ mod tree;
 mod trigger;
 mod types;
 
+pub use answers::{Answers, answer_all};
 pub use bytes::Bytes;
 pub use items::Items;
 pub use laws::{mem_link_tells, mem_net_tells, mem_sink_tells, mem_spill_tells, mem_tree_tells};

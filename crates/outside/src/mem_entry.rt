@@ -2,11 +2,11 @@
 ghost use Rattle.std.specs.Prelude.{◌≡◌, ◌≤◌, ◌+◌, ◌↔◌, true, IsTrue, IsErr, IfOk, OnOk, IfSome};
 ghost use Rattle.std.specs.Prelude.{IsSomeAnd, MatchOption, None, length, take, drop};
 ghost use Rattle.std.specs.Option.{option_copied};
-ghost use Rattle.outside.specs.Causes.{HasCause, faults_after, raised};
+ghost use Rattle.outside.specs.Causes.{HasCause};
 ghost use Rattle.outside.specs.Memory.{is_listed};
-ghost use Rattle.outside.specs.Tree.{Sizes};
+ghost use Rattle.outside.specs.Tree.{Sizes, entry_after};
 
-use crate::fails::next_fails;
+use crate::fails::next_call;
 use crate::{Bytes, Failed, Items, TreeEntry};
 use std::marker::Model;
 
@@ -95,17 +95,12 @@ impl TreeEntry for MemEntry {
         ensures told { IfOk result (λ size.
             MatchOption size (self.old.file ≡ None)
             (λ n. IsSomeAnd self.old.file (λ bytes. n ≡ length bytes))) }
-        ensures counted { self.new ≡ record (self.old) {
+        ensures counted { self.new ≡ record (entry_after result self.old) {
           sized = self.new.sized;
-          calls = raised self.old.calls;
-          faults = faults_after result self.old.faults;
         } }
         ensures plan { IsErr result ↔ IsTrue (is_listed self.old.fails self.old.calls) }
     {
-        if next_fails(&self.fails, &mut self.calls) {
-            self.faults = self.faults.saturating_add(1);
-            return Err(Failed);
-        }
+        next_call(&self.fails, &mut self.calls, &mut self.faults)?;
         match &self.file {
             Some(bytes) => {
                 let size = bytes.len() as u64;
@@ -121,16 +116,10 @@ impl TreeEntry for MemEntry {
         ensures cause { HasCause self.old.faults self.new.faults result }
         ensures bytes { OnOk result (IfSome self.old.file (λ bytes.
             into.new ≡ take (length into.old) (drop at bytes))) }
-        ensures counted { self.new ≡ record (self.old) {
-          calls = raised self.old.calls;
-          faults = faults_after result self.old.faults;
-        } }
+        ensures counted { self.new ≡ entry_after result self.old }
         ensures plan { IsErr result ↔ IsTrue (is_listed self.old.fails self.old.calls) }
     {
-        if next_fails(&self.fails, &mut self.calls) {
-            self.faults = self.faults.saturating_add(1);
-            return Err(Failed);
-        }
+        next_call(&self.fails, &mut self.calls, &mut self.faults)?;
         match &self.file {
             Some(bytes) => {
                 let at = at as usize;

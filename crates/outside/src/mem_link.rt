@@ -1,7 +1,6 @@
 //! A link in memory.
 ghost use Rattle.std.specs.Prelude.{◌≡◌, ◌≤◌, [], length, vec_capacity};
-ghost use Rattle.outside.specs.Link.{opened};
-ghost use Rattle.outside.specs.MemLink.{KeepsToPlan};
+ghost use Rattle.outside.specs.MemLink.{KeepsToPlan, new_link};
 
 mod calls;
 
@@ -81,16 +80,7 @@ impl MemLink {
     ) -> MemLink
         requires empty { arrivals.items ≡ [] }
         requires room { length plan.input ≤ vec_capacity arrivals }
-        ensures { result ≡ record {
-          key = key;
-          plan = plan;
-          state = opened now;
-          faults = 0;
-          starved = 0;
-          recvs = 0;
-          reads = 0;
-          sends = 0;
-        } }
+        ensures { result ≡ new_link key now plan }
     {
         MemLink {
             key,

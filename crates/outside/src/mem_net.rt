@@ -76,13 +76,15 @@ impl Model for MemNet {
     } };
 
     ghost invariant = { λ n. record {
-      moments : n.plan.value.moments ≡ n.moments;
-      stop_at : n.plan.value.stop_at ≡ n.stop_at;
-      bind_fails : n.plan.value.bind_fails ≡ n.bind_fails;
-      poll_fails : n.plan.value.poll_fails ≡ n.poll_fails;
-      accept_fails : n.plan.value.accept_fails ≡ n.accept_fails;
-      some_moment : 0 < length n.moments;
-      rising : NeverFalls n.moments;
+      plan : record {
+        moments : n.plan.value.moments ≡ n.moments;
+        stop_at : n.plan.value.stop_at ≡ n.stop_at;
+        bind_fails : n.plan.value.bind_fails ≡ n.bind_fails;
+        poll_fails : n.plan.value.poll_fails ≡ n.poll_fails;
+        accept_fails : n.plan.value.accept_fails ≡ n.accept_fails;
+        some_moment : 0 < length n.moments;
+        rising : NeverFalls n.moments;
+      };
       few : n.accepted + length n.waiting.items < 2 ^ 32;
       accepted : length n.given.value ≡ n.accepted;
       open_ones : n.live ≤ n.accepted;

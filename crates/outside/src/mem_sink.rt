@@ -1,9 +1,9 @@
 //! A sink in memory.
 ghost use Rattle.std.specs.Prelude.{◌≡◌, ℕ, ◌++◌, [], true, take, OnOk, OnErr};
-ghost use Rattle.outside.specs.Causes.{HasCause, faults_after, raised};
-ghost use Rattle.outside.specs.Memory.{FailsByPlan};
+ghost use Rattle.outside.specs.Causes.{HasCause};
+ghost use Rattle.outside.specs.Memory.{FailsByPlan, sink_after};
 
-use crate::fails::next_fails;
+use crate::fails::next_call;
 use crate::{Failed, Items, Sink};
 use std::alloc::Global;
 use std::marker::Model;
@@ -86,19 +86,14 @@ impl Sink for MemSink {
         ensures written { OnOk result (self.new.written ≡ self.old.written ++ from.now) }
         ensures broken { OnErr result
             ((n : ℕ) × (self.new.written ≡ self.old.written ++ take n from.now)) }
-        ensures counted { self.new ≡ record (self.old) {
+        ensures counted { self.new ≡ record (sink_after result self.old) {
           written = self.new.written;
-          calls = raised self.old.calls;
-          faults = faults_after result self.old.faults;
           starved = self.new.starved;
         } }
         ensures plan { FailsByPlan self.old.fails self.old.calls
             self.old.starved self.new.starved result }
     {
-        if next_fails(&self.fails, &mut self.calls) {
-            self.faults = self.faults.saturating_add(1);
-            return Err(Failed);
-        }
+        next_call(&self.fails, &mut self.calls, &mut self.faults)?;
         if self.written.extend_from_slice(from).is_err() {
             self.faults = self.faults.saturating_add(1);
             self.starved = self.starved.saturating_add(1);

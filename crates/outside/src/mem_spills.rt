@@ -2,10 +2,10 @@
 ghost use Rattle.std.specs.Prelude.{◌≡◌, ◌≤◌, ◌+◌, ◌-◌, ◌↔◌, ◌++◌, [], true, IsTrue, IsErr, IfOk};
 ghost use Rattle.std.specs.Prelude.{OnOk, OnErr, length, map, take, drop, min};
 ghost use Rattle.std.proofs.Common.{refl};
-ghost use Rattle.outside.specs.Causes.{HasCause, faults_after, raised, added};
-ghost use Rattle.outside.specs.Memory.{FailsByPlan, is_listed, first_list};
+ghost use Rattle.outside.specs.Causes.{HasCause, added};
+ghost use Rattle.outside.specs.Memory.{FailsByPlan, is_listed, first_list, spill_after};
 
-use crate::fails::next_fails;
+use crate::fails::next_call;
 use crate::{Failed, Items, Spill, Spills};
 use std::alloc::Global;
 use std::collections::VecDeque;
@@ -76,19 +76,14 @@ impl Spill for MemSpill {
         ensures short { OnErr result (at ≤ length self.new.content) }
         ensures content { OnOk result (self.new.content ≡ take at self.old.content ++ from.now) }
         ensures front { OnErr result (take at self.new.content ≡ take at self.old.content) }
-        ensures counted { self.new ≡ record (self.old) {
+        ensures counted { self.new ≡ record (spill_after result self.old) {
           content = self.new.content;
-          calls = raised self.old.calls;
-          faults = faults_after result self.old.faults;
           starved = self.new.starved;
         } }
         ensures plan { FailsByPlan self.old.fails self.old.calls
             self.old.starved self.new.starved result }
     {
-        if next_fails(&self.fails, &mut self.calls) {
-            self.faults = self.faults.saturating_add(1);
-            return Err(Failed);
-        }
+        next_call(&self.fails, &mut self.calls, &mut self.faults)?;
         self.content.truncate(at as usize);
         if self.content.extend_from_slice(from).is_err() {
             self.faults = self.faults.saturating_add(1);
@@ -104,16 +99,10 @@ impl Spill for MemSpill {
         ensures count { IfOk result (λ n.
             n ≡ min (length into.old) (length self.old.content - at)) }
         ensures bytes { IfOk result (λ n. take n into.new ≡ take n (drop at self.old.content)) }
-        ensures counted { self.new ≡ record (self.old) {
-          calls = raised self.old.calls;
-          faults = faults_after result self.old.faults;
-        } }
+        ensures counted { self.new ≡ spill_after result self.old }
         ensures plan { IsErr result ↔ IsTrue (is_listed self.old.fails self.old.calls) }
     {
-        if next_fails(&self.fails, &mut self.calls) {
-            self.faults = self.faults.saturating_add(1);
-            return Err(Failed);
-        }
+        next_call(&self.fails, &mut self.calls, &mut self.faults)?;
         let at = at as usize;
         let count = into.len().min(self.content.len() - at);
         into[..count].copy_from_slice(&self.content[at..at + count]);

@@ -14,21 +14,21 @@ use super::MemNet;
 use super::told::{Addresses, FirstMoment, Latest, OneMore, Seen};
 use crate::fails::next_fails;
 use crate::{
-    Comer, End, Failed, Items, Listen, MemLink, Net, NetFault, NetPlan, Peer, Retired, Turn, Want,
-    tell,
+    Answers, Comer, End, Failed, Items, Listen, MemLink, Net, NetFault, NetPlan, Peer, Retired,
+    Turn, Want, answer_all, tell,
 };
 use std::alloc::Global;
 use std::collections::VecDeque;
 use std::snapshot::Snapshot;
 
 // Each want is ready for what it asks.
-fn answer_all(wants: &mut Vec<Want>)
-    ensures asked { map asked_of wants.new.items ≡ map asked_of wants.old.items }
-    ensures ready { All IsReady wants.new.items }
-{
-    for want in wants.iter_mut() {
-        want.may_read = want.read;
-        want.may_write = want.write;
+struct AllReady;
+
+impl Answers for AllReady {
+    ghost met = { IsReady };
+
+    fn answer(&self, want: &mut Want) {
+        want.answer(true, true);
     }
 }
 
@@ -131,7 +131,7 @@ impl Net for MemNet {
           poll_faults = faults_after result self.old.poll_faults;
         } }
     {
-        answer_all(wants);
+        answer_all(&AllReady, wants);
         let number = self.polls;
         if next_fails(&self.poll_fails, &mut self.polls) {
             self.poll_faults = self.poll_faults.saturating_add(1);

@@ -9,13 +9,15 @@ invariant_of-result c =
     let same : c.of-whole.result.value ≡ plan = search rules in
     let all : waiting ≡ plan.comers = search rules in
     record {
-      moments = ap (λ p. p.moments) same;
-      stop_at = ap (λ p. p.stop_at) same;
-      bind_fails = ap (λ p. p.bind_fails) same;
-      poll_fails = ap (λ p. p.poll_fails) same;
-      accept_fails = ap (λ p. p.accept_fails) same;
-      some_moment = c.requires.some_moment;
-      rising = c.requires.rising;
+      plan = record {
+        moments = ap (λ p. p.moments) same;
+        stop_at = ap (λ p. p.stop_at) same;
+        bind_fails = ap (λ p. p.bind_fails) same;
+        poll_fails = ap (λ p. p.poll_fails) same;
+        accept_fails = ap (λ p. p.accept_fails) same;
+        some_moment = c.requires.some_moment;
+        rising = c.requires.rising;
+      };
       few = search rules;
       accepted = search rules;
       open_ones = search rules;

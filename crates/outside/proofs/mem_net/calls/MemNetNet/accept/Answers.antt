@@ -12,13 +12,7 @@ invariant_of-self-in_default c =
     let i = c.self.invariant in
     let none = none_due c.self.inside.waiting.items c.self.inside.polls (search rules) in
     record {
-      moments = i.moments;
-      stop_at = i.stop_at;
-      bind_fails = i.bind_fails;
-      poll_fails = i.poll_fails;
-      accept_fails = i.accept_fails;
-      some_moment = i.some_moment;
-      rising = i.rising;
+      plan = i.plan;
       few = i.few;
       accepted = i.accepted;
       open_ones = i.open_ones;
@@ -51,13 +45,7 @@ invariant_of-self-2 c =
     rw (← c.of-2.ensures) c.tell.ensures in
     let longer = length-append old_given (seat_of comer ∷ []) in
     record {
-      moments = i.moments;
-      stop_at = i.stop_at;
-      bind_fails = i.bind_fails;
-      poll_fails = i.poll_fails;
-      accept_fails = i.accept_fails;
-      some_moment = i.some_moment;
-      rising = i.rising;
+      plan = i.plan;
       few = omega (arith, i.few, shorter);
       accepted = omega (arith, ap length given, longer, i.accepted);
       open_ones = omega (arith, i.open_ones);

@@ -25,30 +25,24 @@ invariant_of-self-2 c =
     rw (← c.of-2.ensures, ← c.of-3.ensures, ← c.of-4.ensures) c.tell-2.ensures in
     let moments = c.self.inside.plan.value.moments in
     let listed : is_listed moments c.moment_of.result ≡ true =
-    rw i.moments c.moment_of.ensures.listed in
+    rw i.plan.moments c.moment_of.ensures.listed in
     let polled : PolledByPlan c.self.inside.plan.value (found_in p) (poll_in p) = record {
       turn = record {
-        moment = rw i.moments c.moment_of.ensures.value;
-        stop = rw i.stop_at c.stops.ensures;
+        moment = rw i.plan.moments c.moment_of.ensures.value;
+        stop = rw i.plan.stop_at c.stops.ensures;
         come = rw (← c.next_fails.ensures.counted) c.comes.ensures;
       };
-      ready = c.answer_all.ensures.ready;
+      ready = c.answer_all.ensures.met;
       comers = i.comers;
       who = i.who;
     } in
-    let rises = i.rising.later c.self.inside.polls c.next_fails.new.calls
+    let rises = i.plan.rising.later c.self.inside.polls c.next_fails.new.calls
     (omega (arith, c.next_fails.ensures.counted)) in
     let old_first = c.self.inside.first.value in
     let first_told : c.tell.result.value ≡ Some (unwrap_or old_first c.moment_of.result) =
     rw (← c.of.ensures) c.tell.ensures in
     record {
-      moments = i.moments;
-      stop_at = i.stop_at;
-      bind_fails = i.bind_fails;
-      poll_fails = i.poll_fails;
-      accept_fails = i.accept_fails;
-      some_moment = i.some_moment;
-      rising = i.rising;
+      plan = i.plan;
       few = i.few;
       accepted = i.accepted;
       open_ones = i.open_ones;
