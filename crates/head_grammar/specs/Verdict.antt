@@ -11,7 +11,7 @@ use Rattle.head_grammar.specs.declared.types.Framing.{Framing}
 use Rattle.head_grammar.specs.declared.types.Version.TheVariants.{Old}
 use Rattle.head_grammar.specs.declared.types.Parsed.{Parsed}
 use Rattle.head_grammar.specs.declared.types.Parsed.TheVariants.{Blank, Good, Bad}
-use Rattle.head_grammar.specs.Heads.{RequestLine}
+use Rattle.head_grammar.specs.Heads.{Head, RequestLine}
 
 -- A response to HEAD has no body (RFC 9110, section 9.3.2).
 abbrev pub is_head : List ℕ → Bool
@@ -20,8 +20,8 @@ is_head method = bytes_eq method (codes "HEAD")
 abbrev pub bad : RequestLine → Refusal → Parsed
 bad line refusal = Bad refusal line.version (is_head line.method)
 
-abbrev pub good : RequestLine → List Field → Framing → ℕ → Parsed
-good line fields framing size = Good (record {
+abbrev pub head_of : RequestLine → List Field → Framing → ℕ → Head
+head_of line fields framing size = record {
   method = line.method;
   target = line.target;
   path = line.path;
@@ -32,7 +32,10 @@ good line fields framing size = Good (record {
   expects = expects_of line.version fields framing;
   closes = closes_of line.version fields;
   size = size;
-})
+}
+
+abbrev pub good : RequestLine → List Field → Framing → ℕ → Parsed
+good line fields framing size = Good (head_of line fields framing size)
 
 abbrev pub by_framing : RequestLine → List Field → ℕ → Result Framing Refusal → Parsed
 by_framing line fields size (Err refusal) = bad line refusal

@@ -9,8 +9,11 @@ use crate::whole_line::whole_line;
 use crate::{FieldList, Refusal};
 use std::alloc::{AllocError, Global};
 
-/// For how many fields there is room at once.
+/// For how many fields there is room at once, at least.
 const EXPECTED_FIELDS: usize = 16;
+
+/// So many bytes of a longer head are room for one more.
+const EXPECTED_SIZE: usize = 32;
 
 fn keep(fields: &mut FieldList, field: &SentField<'_>) -> Result<(), AllocError>
     ensures { OnOk result (fields.new ≡ fields.old ++ spec.kept (field.now ∷ [])) }
@@ -26,13 +29,15 @@ fn keep(fields: &mut FieldList, field: &SentField<'_>) -> Result<(), AllocError>
 fn read_kept(alloc: Global, mut lines: Lines<'_>) -> Result<Result<FieldList, Refusal>, AllocError>
     ensures { IfOk result (λ read. read ≡ spec.kept_fields lines.entry) }
 {
-    let mut fields = FieldList::with_room(alloc, EXPECTED_FIELDS, lines.size())?;
+    let count = EXPECTED_FIELDS.max(lines.size() / EXPECTED_SIZE);
+    let mut fields = FieldList::with_room(alloc, count, lines.size())?;
     while let Some(line) = lines.next() {
         let line = whole_line(alloc, line, &mut lines)?;
-        match read_field(line.as_slice()) {
-            Ok(field) => keep(&mut fields, &field)?,
+        let field = match read_field(line.as_slice()) {
+            Ok(field) => field,
             Err(refusal) => return Ok(Err(refusal)),
-        }
+        };
+        keep(&mut fields, &field)?;
     }
     Ok(Ok(fields))
 }

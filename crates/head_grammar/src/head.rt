@@ -1,6 +1,6 @@
 //! A request head.
 ghost use Rattle.std.specs.Prelude.{◌≡◌};
-ghost use Rattle.head_grammar.specs.Framings.{closes_of, expects_of};
+ghost use Rattle.head_grammar.specs.Verdict.{head_of};
 
 use crate::framing::{closes, expects};
 use crate::request_line::RequestLine;
@@ -40,18 +40,7 @@ impl Model for Head {
 impl Head {
     /// The head with this line and these fields.
     pub(crate) fn new(line: RequestLine, fields: FieldList, framing: Framing, size: u64) -> Head
-        ensures { result ≡ record {
-          method = line.method;
-          target = line.target;
-          path = line.path;
-          query = line.query;
-          version = line.version;
-          fields = fields;
-          framing = framing;
-          expects = expects_of line.version fields framing;
-          closes = closes_of line.version fields;
-          size = size;
-        } }
+        ensures { result ≡ head_of line fields framing size }
     {
         let expects = expects(line.version(), &fields.fields(), framing);
         let closes = closes(line.version(), &fields.fields());

@@ -17,18 +17,6 @@ pub returns : goal.returns
 returns c =
     sym (c.loop-line.invariant.same ∙ kept_end c.loop-line.fields c.loop-line.lines (search rules))
 
-pub loop-line-preserved-in_ok-keep-in-Ok : goal.loop-line-preserved-in_ok-keep-in-Ok
-loop-line-preserved-in_ok-keep-in-Ok c = record {
-  can = search rules;
-  ends = search rules;
-  same = kept_next (kept_fields c.args.lines) c.loop-line.fields c.keep.new.fields
-      c.loop-line.lines c.next.new.self c.whole_line.new.lines c.in-Some.line.now
-      (bytes_of c.in_ok-line.line) c.in-Ok.field c.loop-line.invariant.same
-      c.in-Some.ensures.steps c.in_ok-line.ensures.said
-      (ap field_line (sym c.as_slice.ensures) ∙ (sym c.read_field.ensures ∙ c.in-Ok.is))
-      c.in_ok-keep-in-Ok.ensures;
-}
-
 pub loop-line-preserved : goal.loop-line-preserved
 loop-line-preserved c = record {
   can = search rules;
@@ -38,5 +26,5 @@ loop-line-preserved c = record {
       (bytes_of c.in_ok-line.line) c.in-Ok.field c.loop-line.invariant.same
       c.in-Some.ensures.steps c.in_ok-line.ensures.said
       (ap field_line (sym c.as_slice.ensures) ∙ (sym c.read_field.ensures ∙ c.in-Ok.is))
-      c.in_ok-keep-in-Ok.ensures;
+      c.in_ok-keep.ensures;
 }
