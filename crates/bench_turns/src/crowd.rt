@@ -1,8 +1,10 @@
 //! A net of one busy connection among many idle ones.
-ghost use Rattle.std.specs.Prelude.{◌≡◌, ◌<◌, All, IsTrue, map};
-ghost use Rattle.outside.specs.Net.{MayOnlyAsAsked, asked_of};
+ghost use Rattle.outside.specs.Net.{MayOnlyAsAsked};
 
-use outside::{Bytes, End, Failed, Link, Listen, Net, NetFault, Peer, Recv, Sent, Turn, Want};
+use outside::{
+    Answers, Bytes, End, Failed, Link, Listen, Net, NetFault, Peer, Recv, Sent, Turn, Want,
+    answer_all,
+};
 use std::alloc::Global;
 
 const NOW: u64 = 784_111_777;
@@ -43,21 +45,15 @@ impl CrowdNet {
     }
 }
 
-fn may(asked: bool, is_busy: bool) -> bool
-    ensures { IsTrue result → IsTrue asked }
-{
-    asked && is_busy
-}
-
 // The busy connection is ready for what it asks, and no other.
-fn answer_all(wants: &mut Vec<Want>)
-    ensures asked { map asked_of wants.new.items ≡ map asked_of wants.old.items }
-    ensures only { All MayOnlyAsAsked wants.new.items }
-{
-    for want in wants.iter_mut() {
+struct OneBusy;
+
+impl Answers for OneBusy {
+    ghost met = { MayOnlyAsAsked };
+
+    fn answer(&self, want: &mut Want) {
         let is_busy = want.key == 0;
-        want.may_read = may(want.read, is_busy);
-        want.may_write = may(want.write, is_busy);
+        want.answer(is_busy, is_busy);
     }
 }
 
@@ -97,7 +93,8 @@ impl Link for CrowdLink {
 }
 
 impl Net for CrowdNet {
-    ghost use Rattle.std.specs.Prelude.{◌<◌, ◌≤◌, false, [], None};
+    ghost use Rattle.std.specs.Prelude.{◌<◌, ◌≤◌, false};
+    ghost use Rattle.outside.specs.Net.{unasked};
 
     type Link = CrowdLink;
 
@@ -105,19 +102,7 @@ impl Net for CrowdNet {
 
     ghost tells = { false };
 
-    ghost state = { λ _. record {
-      closed = [];
-      live = 0;
-      stopped = false;
-      quiet = false;
-      bound = None;
-      given = [];
-      polls = 0;
-      first = None;
-      last = None;
-      asked = 0;
-      put_off = 0;
-    } };
+    ghost state = { λ _. unasked false };
 
     ghost plan = { λ _. tt };
 
@@ -136,7 +121,7 @@ impl Net for CrowdNet {
     }
 
     fn poll(&mut self, wants: &mut Vec<Want>, accepting: bool) -> Result<Turn, Failed> {
-        answer_all(wants);
+        answer_all(&OneBusy, wants);
         let stop = self.turns_left == 0;
         self.turns_left = self.turns_left.saturating_sub(1);
         Ok(Turn {
