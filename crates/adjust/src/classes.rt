@@ -37,7 +37,7 @@ fn are_digits(text: &[u8]) -> bool
 }
 
 /// Whether the text is one or more digits.
-pub fn is_numeral(text: &[u8]) -> bool
+pub(crate) fn is_numeral(text: &[u8]) -> bool
     ensures { result ≡ spec.is_some_of tables.is_digit text.now }
 {
     !text.is_empty() && are_digits(text)
@@ -68,14 +68,14 @@ fn are_visible(text: &[u8]) -> bool
 }
 
 /// Whether the text is a name or an address of version 4.
-pub fn is_host_text(text: &[u8]) -> bool
+pub(crate) fn is_host_text(text: &[u8]) -> bool
     ensures { result ≡ spec.is_some_of spec.is_host_byte text.now }
 {
     !text.is_empty() && are_host_bytes(text)
 }
 
 /// Whether the text is an address of version 6, without brackets.
-pub fn is_literal_text(text: &[u8]) -> bool
+pub(crate) fn is_literal_text(text: &[u8]) -> bool
     ensures { result ≡ spec.is_some_of spec.is_literal_byte text.now }
 {
     !text.is_empty() && are_literal_bytes(text)
@@ -88,14 +88,14 @@ fn is_address(text: &[u8]) -> bool
 }
 
 /// Whether the text is `*` or an address.
-pub fn is_proxy(text: &[u8]) -> bool
+pub(crate) fn is_proxy(text: &[u8]) -> bool
     ensures { result ≡ spec.is_proxy text.now }
 {
     text == b"*".as_slice() || is_address(text)
 }
 
 /// Whether the text is one or more visible characters.
-pub fn is_visible_text(text: &[u8]) -> bool
+pub(crate) fn is_visible_text(text: &[u8]) -> bool
     ensures { result ≡ spec.is_some_of tables.is_visible text.now }
 {
     !text.is_empty() && are_visible(text)
@@ -117,7 +117,7 @@ fn begins_with_letter(text: &[u8]) -> bool
 }
 
 /// Whether the text is a scheme.
-pub fn is_scheme(text: &[u8]) -> bool
+pub(crate) fn is_scheme(text: &[u8]) -> bool
     ensures { result ≡ spec.is_scheme text.now }
 {
     begins_with_letter(text) && are_scheme_bytes(text)
@@ -148,7 +148,7 @@ fn ends_with_space(text: &[u8]) -> bool
 }
 
 /// Whether the text ends with `]`.
-pub fn ends_with_bracket(text: &[u8]) -> bool
+pub(crate) fn ends_with_bracket(text: &[u8]) -> bool
     ensures { result ≡ spec.ends_with (λ b. b == 93) text.now }
 {
     match text.last() {
@@ -164,7 +164,7 @@ fn are_field_bytes(text: &[u8]) -> bool
 }
 
 /// Whether the text may stand as the whole value of a field.
-pub fn is_field_text(text: &[u8]) -> bool
+pub(crate) fn is_field_text(text: &[u8]) -> bool
     ensures { result ≡ spec.is_field_text text.now }
 {
     are_field_bytes(text) && !begins_with_space(text) && !ends_with_space(text)

@@ -10,7 +10,7 @@ use toml::{Table, Value};
 
 /// The document that bytes write.
 #[tactic(auto, using(crate::proofs::Documents::document_read, crate::proofs::Documents::document_refused))]
-pub fn document(alloc: Global, bytes: &[u8]) -> Result<Option<Table>, AllocError>
+pub(crate) fn document(alloc: Global, bytes: &[u8]) -> Result<Option<Table>, AllocError>
     ensures { IfOk result (λ found. option_map table_view found ≡ spec.document bytes.now) }
 {
     match toml::table_from_slice(alloc, bytes) {
@@ -27,7 +27,7 @@ pub fn document(alloc: Global, bytes: &[u8]) -> Result<Option<Table>, AllocError
 
 /// The tables under the one key of a document. One without a key has none.
 #[tactic(auto, using(crate::proofs::Documents::one_key, crate::proofs::Documents::more_keys))]
-pub fn tables(alloc: Global, document: Table) -> Result<Option<Vec<Table>>, AllocError>
+pub(crate) fn tables(alloc: Global, document: Table) -> Result<Option<Vec<Table>>, AllocError>
     ensures { IfOk result (λ found. option_map (λ all. map table_view all.items)
         found ≡ spec.tables_of (table_view document)) }
 {

@@ -17,7 +17,7 @@ const MOST_ROWS: usize = 1000;
 
 /// The rows that a file writes, or what is wrong with it.
 #[tactic(auto, unfolding(crate::specs::Table::table_of))]
-pub fn read_rows(
+pub(crate) fn read_rows(
     alloc: Global,
     bytes: &[u8],
 ) -> Result<Result<Items<SharedRow>, TableFault>, AllocError>

@@ -11,23 +11,23 @@ use wsgi::Step;
 
 /// What answers the requests of one path and method.
 #[derive(Debug, Drop)]
-pub struct Row {
-    pub path: Bytes,
-    pub method: Bytes,
-    pub status: Bytes,
-    pub fields: Items<Field>,
-    pub pieces: Items<Bytes>,
+pub(crate) struct Row {
+    pub(crate) path: Bytes,
+    pub(crate) method: Bytes,
+    pub(crate) status: Bytes,
+    pub(crate) fields: Items<Field>,
+    pub(crate) pieces: Items<Bytes>,
     /// Whether the one piece is known to be all of the body.
-    pub whole: bool,
+    pub(crate) whole: bool,
     /// The length that is declared, whatever the pieces have.
-    pub length: Option<u64>,
+    pub(crate) length: Option<u64>,
     /// Whether the application fails behind the pieces.
-    pub fail: bool,
+    pub(crate) fail: bool,
 }
 
 impl Row {
     /// Whether it answers the requests of this method and path.
-    pub fn answers(&self, method: &[u8], path: &[u8]) -> bool
+    pub(crate) fn answers(&self, method: &[u8], path: &[u8]) -> bool
         ensures { result ≡ spec.answers method.now path.now self.now }
     {
         self.path.as_slice() == path
@@ -36,7 +36,7 @@ impl Row {
     }
 
     /// How many steps it has.
-    pub fn count(&self) -> usize
+    pub(crate) fn count(&self) -> usize
         requires few { length self.now.pieces < 2 ^ 61 }
         ensures steps { result ≡ length (spec.row_script self.now) }
         ensures below { result < 2 ^ 62 }
@@ -46,7 +46,7 @@ impl Row {
 
     /// The step at a place, from 0.
     #[tactic(auto, using(crate::proofs::StepLemmas::get_behind))]
-    pub fn step(&self, alloc: Global, place: usize) -> Result<Option<Step>, AllocError>
+    pub(crate) fn step(&self, alloc: Global, place: usize) -> Result<Option<Step>, AllocError>
         ensures { IfOk result (λ step. step ≡ slice_get (spec.row_script self.now) place) }
     {
         if place == 0 {

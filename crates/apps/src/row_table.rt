@@ -14,7 +14,7 @@ use toml::{Table, Value};
 
 /// The row of a table, or `None` where it is bad.
 #[tactic(auto, unfolding(crate::specs::Rows::row_of))]
-pub fn row_of(alloc: Global, table: &Table) -> Result<Option<Row>, AllocError>
+pub(crate) fn row_of(alloc: Global, table: &Table) -> Result<Option<Row>, AllocError>
     ensures { IfOk result (λ row. row ≡ spec.row_of (table_view table.now)) }
 {
     if !has_keys(table) {

@@ -8,7 +8,7 @@ use std::sync::Arc;
 
 /// A row that is not copied for each response.
 #[derive(Debug, Drop)]
-pub struct SharedRow {
+pub(crate) struct SharedRow {
     row: Arc<Row>,
 }
 
@@ -26,7 +26,7 @@ impl Model for SharedRow {
 
 impl SharedRow {
     /// Shares a row. For one of 2^61 pieces there is no memory.
-    pub fn new(alloc: Global, row: Row) -> Result<SharedRow, AllocError>
+    pub(crate) fn new(alloc: Global, row: Row) -> Result<SharedRow, AllocError>
         ensures { IfOk result (λ shared. shared ≡ row) }
     {
         if row.pieces.len() >= 1 << 61 {
@@ -37,7 +37,7 @@ impl SharedRow {
         })
     }
 
-    pub fn row(&self) -> &Row
+    pub(crate) fn row(&self) -> &Row
         ensures row { result.now ≡ self.now }
         ensures few { length result.now.pieces < 2 ^ 61 }
     {
@@ -45,7 +45,7 @@ impl SharedRow {
     }
 
     /// Another owner of the same row.
-    pub fn share(&self) -> Result<SharedRow, AllocError>
+    pub(crate) fn share(&self) -> Result<SharedRow, AllocError>
         ensures { IfOk result (λ shared. shared ≡ self.now) }
     {
         Ok(SharedRow {

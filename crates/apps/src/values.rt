@@ -10,7 +10,7 @@ use toml::Value;
 use toml::value::Array;
 
 /// A text.
-pub fn text(alloc: Global, value: &Value) -> Result<Option<Bytes>, AllocError>
+pub(crate) fn text(alloc: Global, value: &Value) -> Result<Option<Bytes>, AllocError>
     ensures { IfOk result (λ text. text ≡ spec.text (view value.now)) }
 {
     match value.as_str() {
@@ -20,7 +20,7 @@ pub fn text(alloc: Global, value: &Value) -> Result<Option<Bytes>, AllocError>
 }
 
 /// A text that begins with a slash.
-pub fn path(alloc: Global, value: &Value) -> Result<Option<Bytes>, AllocError>
+pub(crate) fn path(alloc: Global, value: &Value) -> Result<Option<Bytes>, AllocError>
     ensures { IfOk result (λ path. path ≡ spec.path_in (view value.now)) }
 {
     match value.as_str() {
@@ -36,7 +36,7 @@ pub fn path(alloc: Global, value: &Value) -> Result<Option<Bytes>, AllocError>
 }
 
 /// A text that isn't empty.
-pub fn method(alloc: Global, value: &Value) -> Result<Option<Bytes>, AllocError>
+pub(crate) fn method(alloc: Global, value: &Value) -> Result<Option<Bytes>, AllocError>
     ensures { IfOk result (λ method. method ≡ spec.method_in (view value.now)) }
 {
     match value.as_str() {
@@ -52,7 +52,7 @@ pub fn method(alloc: Global, value: &Value) -> Result<Option<Bytes>, AllocError>
 }
 
 /// The texts of a list.
-pub fn texts(alloc: Global, value: &Value) -> Result<Option<Items<Bytes>>, AllocError>
+pub(crate) fn texts(alloc: Global, value: &Value) -> Result<Option<Items<Bytes>>, AllocError>
     ensures { IfOk result (λ texts. texts ≡ spec.list_of spec.text (view value.now)) }
 {
     match value.as_array() {
@@ -75,7 +75,7 @@ fn each_text(alloc: Global, list: &Array) -> Result<Option<Items<Bytes>>, AllocE
 }
 
 /// The fields of a list.
-pub fn fields(alloc: Global, value: &Value) -> Result<Option<Items<Field>>, AllocError>
+pub(crate) fn fields(alloc: Global, value: &Value) -> Result<Option<Items<Field>>, AllocError>
     ensures { IfOk result (λ fields. fields ≡ spec.list_of spec.field (view value.now)) }
 {
     match value.as_array() {
@@ -129,14 +129,14 @@ fn pair(name: Option<Bytes>, value: Option<Bytes>) -> Option<Field>
 }
 
 /// A truth value.
-pub fn truth(value: &Value) -> Option<bool>
+pub(crate) fn truth(value: &Value) -> Option<bool>
     ensures { result ≡ spec.truth (view value.now) }
 {
     value.as_bool()
 }
 
 /// A whole number of at least 0.
-pub fn count(value: &Value) -> Option<u64>
+pub(crate) fn count(value: &Value) -> Option<u64>
     ensures { result ≡ spec.count (view value.now) }
 {
     match value.as_integer() {

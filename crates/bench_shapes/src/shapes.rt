@@ -22,7 +22,7 @@ pub enum Shape {
 }
 
 /// Each shape with the word that names it.
-pub const SHAPES: [(&str, Shape); 10] = [
+pub(crate) const SHAPES: [(&str, Shape); 10] = [
     ("small", Shape::Small),
     ("twelve", Shape::Twelve),
     ("browser", Shape::Fields(40)),

@@ -1,7 +1,7 @@
 //! Serves one busy connection among idle ones, and prints what was sent.
 //!
-//! With the words CONNECTIONS TURNS it makes so many turns with so many connections; with none it makes
-//! twenty turns with each of a few numbers.
+//! With the words CONNECTIONS TURNS it makes so many turns with so many connections; with none it
+//! makes twenty turns with each of a few numbers.
 #![tactic(auto)]
 
 mod crowd;

@@ -6,8 +6,10 @@ use Rattle.std.specs.Prelude.{◌&&◌, ◌||◌, if◌then◌else◌, is_some, 
 use Rattle.std.specs.Option.{ForSome}
 use Rattle.std.specs.List.{list_any}
 use Rattle.std.proofs.lemmas.List.Sums.{fold-append}
+use Rattle.outside.specs.Link.{LinkState, Sends}
 use Rattle.outside.specs.declared.types.End.{End}
 use Rattle.outside.specs.declared.types.End.TheVariants as over
+use Rattle.outside.specs.declared.types.Sent.TheVariants.{Took}
 use Rattle.outside.specs.declared.told.Told.{Told}
 use Rattle.channel.specs.declared.shared.Fixed.{Fixed}
 use Rattle.request_stream.specs.Asks.{IsAdded, asks}
@@ -168,7 +170,8 @@ module _ {A R S : Type 0} (known : Known A R S) where
           keeps = λ l r was kept. subst (λ (acts : List (LeftAct S)). KeepsSide known.spill_tells
               old.fixed.value.limits old.fixed.value.window.timeout new_side (left_acts l acts))
               (sym is)
-              (side_ends _ _ _ _ _ l tells (none l r was) kept (left_by l (Killed end)) end refl refl
+              (side_ends _ _ _ _ _ l tells (none l r was) kept (left_by l (Killed end))
+              end refl refl
               refl (buried ∙ kept.buried) (λ e. absurd (unbroken e)) kills limits
               piece
               more
@@ -509,14 +512,11 @@ pub lends_of : {A R S : Type 0} (known : Known A R S) (old_side new_side : Side)
     old.dead ≡ None → new_side.tells ≡ old_side.tells → new_side.buried ≡ old_side.buried →
     bytes ≡ lent_of old.output → Skips known.spill_tells taken old new → taken ≤ length bytes →
     entry.value ≡ Drained (take taken bytes) ∷ [] → new_side.story ≡ old_side.story →
-    (IsTrue old_side.tells → new_side.link.arrivals ≡ old_side.link.arrivals) →
-    (IsTrue old_side.tells → new_side.link.sent ≡ old_side.link.sent ++ take taken bytes) →
-    ((IsTrue old_side.tells → old_side.ended ≡ old_side.link.ended) → IsTrue old_side.tells →
-    new_side.ended ≡ new_side.link.ended) →
-    (IsTrue old_side.tells → new_side.touched ≡ new_side.link.touched) →
+    new_side.ended ≡ old_side.ended → (IsTrue old_side.tells →
+    Sends new_side.touched bytes (Took taken) old_side.link new_side.link) →
     LTurns known old_side new_side old new entry
 lends_of known old_side new_side old new entry bytes taken alive tells buried lent skips some is
-    story arrivals sent ended touched =
+    story ended sends =
     let b = skips.before in
     let first : bytes ≡ take b.in_memory b.bytes = lent ∙ ap lent_of skips.had in
     let there : length_of old.output ≡ length b.bytes = ap length_of skips.had in
@@ -528,8 +528,12 @@ lends_of known old_side new_side old new entry bytes taken alive tells buried le
     drains_of known old_side new_side old old new entry bytes (length bytes) taken alive tells
     buried (untouched known.spill_tells old b skips.had) skips (omega (arith, size, there)) some
     (λ t o had. whole ∙ (sym front ∙ ap (λ (x : Buffered _). take (length bytes) x.bytes)
-    (same b o (sym skips.had ∙ had)))) is story arrivals
-    (λ t. sent t ∙ ap (λ xs. old_side.link.sent ++ take taken xs) (sym whole)) ended touched
+    (same b o (sym skips.had ∙ had)))) is story
+    (λ t. ap (λ (s : LinkState). s.arrivals) (sends t))
+    (λ t. ap (λ (s : LinkState). s.sent) (sends t)
+    ∙ ap (λ xs. old_side.link.sent ++ take taken xs) (sym whole))
+    (λ was t. ended ∙ (was t ∙ sym (ap (λ (s : LinkState). s.ended) (sends t))))
+    (λ t. sym (ap (λ (s : LinkState). s.touched) (sends t)))
 
 pub over_none : (dead : Option End) (done : Bool) (o : Option End) → o ≡ over_by dead done →
     is_some o ≡ false → dead ≡ None

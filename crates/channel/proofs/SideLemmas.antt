@@ -14,7 +14,8 @@ use Rattle.request_stream.specs.declared.types.Unit.{Unit as AUnit}
 use Rattle.channel.proofs.ActLemmas.{same}
 use Rattle.channel.proofs.Asked.{asked_both, asked_front}
 use Rattle.channel.specs.Histories.{LeftPast, left_by}
-use Rattle.channel.specs.Sides.{KeepsSide, Side, is_killer, loses_units}
+use Rattle.channel.specs.Sides.{IsSameNear, KeepsSide, Linked, Side, is_killer, loses_units}
+use Rattle.channel.specs.declared.near.Near.{Near}
 use Rattle.channel.specs.declared.acts.LeftAct.TheVariants.{Put, Drained, Killed, Buried}
 
 -- all of them are the first
@@ -30,6 +31,17 @@ asked_first {S} {tells} limits x us h =
 pub no_kill : {X : Type 0} (o : Option X) (x : X) → o ≡ None → o ≡ Some x → ⊥
 no_kill None x e f = cc
 no_kill (Some y) x e f = cc
+
+-- a call that leaves what the polling side is made of
+pub same_near : {L P A R S : Type 0} (links : Linked L P) (old new : Near L A S R) →
+    new.window ≡ old.window → new.peer ≡ old.peer → links.key new.link ≡ links.key old.link →
+    links.plan new.link ≡ links.plan old.link → IsSameNear links old new
+same_near links old new window peer key plan = record {
+  window = window;
+  peer = peer;
+  key = key;
+  plan = plan;
+}
 
 module _ {S : Type 0} (spill_tells : Bool) (limits : Limits) (timeout : ℕ) (old new : Side)
     (l : LeftPast S)

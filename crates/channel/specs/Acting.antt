@@ -1,6 +1,7 @@
 -- What each function on the state does to it.
 use Rattle.std.specs.Prelude.{◌≡◌, ◌<◌, ◌+◌, ℕ, max, Bool, true, false, not, ◌&&◌, ◌||◌}
-use Rattle.std.specs.Prelude.{if◌then◌else◌, nat_eq, nat_lt, List, [], ◌∷◌, ◌++◌, length, take, drop}
+use Rattle.std.specs.Prelude.{if◌then◌else◌, nat_eq, nat_lt, List, [], ◌∷◌, ◌++◌, length, take}
+use Rattle.std.specs.Prelude.{drop}
 use Rattle.std.specs.Prelude.{Option, Some, None, is_none, Result, Ok, Err}
 use Rattle.std.specs.Option.{ForSome}
 use Rattle.outside.specs.declared.types.End.{End}

@@ -5,7 +5,7 @@ use byte_tables::Refusal;
 /// many bytes of it there are; the second one of a place in a line is the size that its digits
 /// spell.
 #[derive(Clone, Copy, Debug, PartialEq, Eq, Drop)]
-pub enum Place {
+pub(crate) enum Place {
     LineStart,
     Digits(u16, u64),
     /// In the white space in front of `;`.

@@ -15,7 +15,7 @@ use wsgi::{RunFault, Step};
 
 /// What was found of a file, and how far its content was given.
 #[derive(Clone, Copy, Debug)]
-pub enum Progress {
+pub(crate) enum Progress {
     /// Nothing was looked at yet.
     Unseen,
     /// There is no file, so a text is given.
@@ -26,12 +26,12 @@ pub enum Progress {
 
 /// The steps of the file at a name.
 #[derive(Drop)]
-pub struct FileSteps<E: TreeEntry> {
-    pub entry: E,
-    pub media: &'static str,
+pub(crate) struct FileSteps<E: TreeEntry> {
+    pub(crate) entry: E,
+    pub(crate) media: &'static str,
     /// Whether the content is left out.
-    pub bodyless: bool,
-    pub progress: Progress,
+    pub(crate) bodyless: bool,
+    pub(crate) progress: Progress,
     pub ghost sized: { ForSome (spec.size_of progress) (λ size. E.sized entry ≡ Some size) },
     pub ghost within: { ForSome (spec.size_of progress) (λ size. spec.place_of progress ≤ size) },
     pub ghost told: { IsTrue E.tells → ForSome (spec.size_of progress) (λ size. option_map length (E.file entry) ≡ Some size) },
@@ -39,7 +39,7 @@ pub struct FileSteps<E: TreeEntry> {
 
 impl<E: TreeEntry> FileSteps<E> {
     /// The next step, or `None` behind the last one.
-    pub fn next(&mut self, alloc: Global) -> Result<Option<Step>, RunFault>
+    pub(crate) fn next(&mut self, alloc: Global) -> Result<Option<Step>, RunFault>
         ensures cause { (s : ℕ) → RunCause result (E.faults self.old.entry)
             (E.faults self.new.entry) s s }
         ensures steps { IsTrue E.tells → TakesStep result
@@ -76,7 +76,7 @@ impl<E: TreeEntry> FileSteps<E> {
 
     /// How many steps may be left.
     #[tactic(auto, using(crate::proofs::FileLemmas::found_within))]
-    pub fn left(&self) -> u64
+    pub(crate) fn left(&self) -> u64
         ensures left { result ≡ spec.file_left self.now.progress }
         ensures below { result < 2 ^ 62 }
     {

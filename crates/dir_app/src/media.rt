@@ -9,7 +9,7 @@ use byte_tables::{Case, cases, find_folded};
 
 /// The media type of a file of this name.
 #[tactic(auto, unfolding(crate::specs::Media::media_type), using(crate::proofs::MediaLemmas::type_found, crate::proofs::MediaLemmas::none_found))]
-pub fn media_type(name: &[u8]) -> &'static str
+pub(crate) fn media_type(name: &[u8]) -> &'static str
     ensures { result.now ≡ spec.media_type name.now }
 {
     let rows = suffixes();

@@ -12,14 +12,14 @@ use std::alloc::{AllocError, Global};
 const PAGE: &str = "index.html";
 
 /// The path, or that of the root where there is none.
-pub fn rooted(path: &[u8]) -> &[u8]
+pub(crate) fn rooted(path: &[u8]) -> &[u8]
     ensures { result.now ≡ spec.rooted path.now }
 {
     if path.is_empty() { b"/" } else { path }
 }
 
 /// The path as a text, where it names a file below the root.
-pub fn below_root(path: &[u8]) -> Option<&str>
+pub(crate) fn below_root(path: &[u8]) -> Option<&str>
     ensures { option_copied result ≡ (if spec.stays_below path.now then Some path.now else None) }
 {
     let text = as_text(path)?;
@@ -89,7 +89,7 @@ fn has_forbidden(part: &[u8]) -> bool
 }
 
 /// What stands behind the last byte that is this one, or all where none is.
-pub fn behind_last(text: &[u8], byte: u8) -> &[u8]
+pub(crate) fn behind_last(text: &[u8], byte: u8) -> &[u8]
     ensures { result.now ≡ after_last (λ b. b == byte) text.now }
 {
     let mut at = text.len();
@@ -100,7 +100,7 @@ pub fn behind_last(text: &[u8], byte: u8) -> &[u8]
 }
 
 /// The name of the file at a path, in its folder.
-pub fn last_part(path: &[u8]) -> &[u8]
+pub(crate) fn last_part(path: &[u8]) -> &[u8]
     ensures { result.now ≡ spec.last_part path.now }
 {
     let last = behind_last(path, b'/');
@@ -112,7 +112,7 @@ pub fn last_part(path: &[u8]) -> &[u8]
 }
 
 /// The name of the file at a path below a root.
-pub fn file_name(alloc: Global, root: &str, path: &str) -> Result<String, AllocError>
+pub(crate) fn file_name(alloc: Global, root: &str, path: &str) -> Result<String, AllocError>
     ensures { IfOk result (λ name. string_bytes name ≡ root.now ++ spec.path_of path.now) }
 {
     let mut name = String::from_str(alloc, root)?;

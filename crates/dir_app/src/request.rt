@@ -12,7 +12,7 @@ use wsgi::Environ;
 
 /// What a request asks for.
 #[derive(Debug, Drop)]
-pub enum Asked {
+pub(crate) enum Asked {
     Text(Text),
     File {
         name: String,
@@ -22,7 +22,7 @@ pub enum Asked {
 }
 
 /// What a request asks a directory with this root for.
-pub fn asked_for(alloc: Global, root: &str, environ: &Environ) -> Result<Asked, AllocError>
+pub(crate) fn asked_for(alloc: Global, root: &str, environ: &Environ) -> Result<Asked, AllocError>
     ensures { IfOk result (λ asked. (files : List (List ℕ × List ℕ)) →
         asked_script files asked ≡ dir_script files root.now environ.now []) }
 {

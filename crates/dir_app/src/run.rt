@@ -14,7 +14,7 @@ use wsgi::{AppRun, RunFault, Step};
 
 /// The steps of a response.
 #[derive(Drop)]
-pub enum Answer<F> {
+pub(crate) enum Answer<F> {
     Text(TextSteps),
     File(F),
 }
@@ -51,9 +51,11 @@ impl<E: TreeEntry + Drop, S: Spill> AppRun<S> for DirRun<E, S> {
     ghost tells = { E.tells };
 
     ghost rest = { λ run. answer_by text.rest_of
-        (λ steps. file.file_rest steps.bodyless steps.media.now (E.file steps.entry) steps.progress) run.answer };
+        (λ steps. file.file_rest steps.bodyless steps.media.now (E.file steps.entry) steps.progress)
+        run.answer };
 
-    ghost left = { λ run. answer_by text.left_of (λ steps. file.file_left steps.progress) run.answer };
+    ghost left = { λ run. answer_by text.left_of (λ steps. file.file_left steps.progress)
+        run.answer };
 
     ghost faults = { λ run. option_map_or E.faults (answer_by (λ _. None)
         (λ steps. Some steps.entry) run.answer) 0 };
@@ -63,7 +65,8 @@ impl<E: TreeEntry + Drop, S: Spill> AppRun<S> for DirRun<E, S> {
     ghost enough = { λ run told. answer_is_counted
         (λ steps. file.file_rest steps.bodyless steps.media.now (E.file steps.entry) steps.progress)
         (λ steps. file.file_left steps.progress)
-        (λ steps. file_is_counted steps.bodyless steps.media.now (E.file steps.entry) steps.progress (steps.told told)) run.answer };
+        (λ steps. file_is_counted steps.bodyless steps.media.now (E.file steps.entry) steps.progress
+        (steps.told told)) run.answer };
 
     fn next(&mut self, alloc: Global) -> Result<Option<Step>, RunFault> {
         match &mut self.answer {

@@ -10,27 +10,27 @@ use wsgi::Step;
 
 /// A short text.
 #[derive(Clone, Copy, Debug)]
-pub enum Text {
+pub(crate) enum Text {
     NotFound,
     NotAllowed,
 }
 
 /// The steps of a text, of which some were given.
 #[derive(Clone, Copy, Debug)]
-pub struct TextSteps {
-    pub text: Text,
-    pub given: usize,
+pub(crate) struct TextSteps {
+    pub(crate) text: Text,
+    pub(crate) given: usize,
 }
 
 impl TextSteps {
-    pub fn new(text: Text) -> TextSteps
+    pub(crate) fn new(text: Text) -> TextSteps
         ensures { result ≡ record { text = text; given = 0 } }
     {
         TextSteps { text, given: 0 }
     }
 
     /// The first step, and those behind it.
-    pub fn begin(alloc: Global, text: Text) -> Result<(Step, TextSteps), AllocError>
+    pub(crate) fn begin(alloc: Global, text: Text) -> Result<(Step, TextSteps), AllocError>
         ensures steps { IfOk result (λ begun. spec.steps_of text ≡ begun.0 ∷ spec.rest_of begun.1) }
         ensures left { IfOk result (λ begun. spec.left_of begun.1 ≡ 1) }
     {
@@ -42,7 +42,7 @@ impl TextSteps {
 
     /// The next step, or `None` behind the last one.
     #[tactic(auto, using(crate::proofs::TextLemmas::get_taken, crate::proofs::TextLemmas::get_over, crate::proofs::TextLemmas::place_within))]
-    pub fn next(&mut self, alloc: Global) -> Result<Option<Step>, AllocError>
+    pub(crate) fn next(&mut self, alloc: Global) -> Result<Option<Step>, AllocError>
         ensures steps { IfOk result (λ step. TakesStep (Ok step) (spec.rest_of self.old)
             (spec.rest_of self.new)) }
         ensures left { IfOk result (λ step. FallsWithStep (Ok step) (spec.left_of self.old)
@@ -60,7 +60,7 @@ impl TextSteps {
 
     /// How many steps are left.
     #[tactic(auto, using(crate::proofs::TextLemmas::two_steps))]
-    pub fn left(&self) -> u64
+    pub(crate) fn left(&self) -> u64
         ensures left { result ≡ spec.left_of self.now }
         ensures below { result ≤ 2 }
     {

@@ -1,5 +1,6 @@
 -- Whether names differ, as their neighbours tell it once they are in order.
-use Rattle.std.proofs.Common.{◌≡◌, ◌+◌, ◌<◌, ℕ, zero, suc, Bool, true, false, List, [], ◌∷◌, map, length}
+use Rattle.std.proofs.Common.{◌≡◌, ◌+◌, ◌<◌, ℕ, zero, suc, Bool, true, false, List, [], ◌∷◌, map}
+use Rattle.std.proofs.Common.{length}
 use Rattle.std.proofs.Common.{IsPermutation, IsSorted, IsTrue, Bor, arith, get_or, refl, ap, sym}
 use Rattle.std.proofs.Common.{◌∙◌, ◌-◌, ◌≤◌, ap₂, inl, inr, subst}
 use Rattle.std.proofs.lemmas.Bool.{cases_eq}

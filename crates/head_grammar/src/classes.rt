@@ -5,7 +5,7 @@ ghost use Rattle.byte_tables.specs.Classes.{is_field, is_token};
 ghost use Rattle.head_grammar.specs.Classes.{is_white_space, trimmed, without_space_behind};
 ghost use Rattle.head_grammar.specs.Classes.{without_space_in_front};
 
-pub fn is_white_space(byte: u8) -> bool
+pub(crate) fn is_white_space(byte: u8) -> bool
     ensures { result ≡ is_white_space byte }
 {
     matches!(byte, b' ' | b'\t')
@@ -19,7 +19,7 @@ fn place_of_other(bytes: &[u8]) -> Option<usize>
 }
 
 /// The bytes without the white space in front.
-pub fn trim_front(bytes: &[u8]) -> &[u8]
+pub(crate) fn trim_front(bytes: &[u8]) -> &[u8]
     ensures { result.now ≡ without_space_in_front bytes.now }
 {
     let count = place_of_other(bytes).unwrap_or(bytes.len());
@@ -43,7 +43,7 @@ pub fn trim(bytes: &[u8]) -> &[u8]
     trim_behind(trim_front(bytes))
 }
 
-pub fn are_token_bytes(bytes: &[u8]) -> bool
+pub(crate) fn are_token_bytes(bytes: &[u8]) -> bool
     ensures { result ≡ list_all is_token bytes.now }
 {
     bytes.iter().all(|byte| byte_tables::is_token(*byte))

@@ -124,7 +124,7 @@ fn combined_copies(alloc: Global, fields: Fields<'_>) -> Result<Vec<Field>, Allo
 }
 
 /// The fields, where a name that comes again adds its values to the first (RFC 9110, section 5.3).
-pub fn combined(alloc: Global, fields: FieldList) -> Result<FieldList, AllocError>
+pub(crate) fn combined(alloc: Global, fields: FieldList) -> Result<FieldList, AllocError>
     ensures { IfOk result (λ combined. combined ≡ spec.combined fields) }
 {
     let lent = fields.fields();

@@ -8,9 +8,9 @@ use std::marker::Model;
 
 /// A field as its line has it: contracts see the name in lower case.
 #[derive(Drop)]
-pub struct SentField<'a> {
-    pub name: &'a [u8],
-    pub value: &'a [u8],
+pub(crate) struct SentField<'a> {
+    pub(crate) name: &'a [u8],
+    pub(crate) value: &'a [u8],
 }
 
 impl<'a> Model for SentField<'a> {
@@ -40,7 +40,7 @@ fn place_of_colon(line: &[u8]) -> Option<usize>
 }
 
 /// What a field line says, or its refusal (RFC 9112, section 5).
-pub fn read_field(line: &[u8]) -> Result<SentField<'_>, Refusal>
+pub(crate) fn read_field(line: &[u8]) -> Result<SentField<'_>, Refusal>
     ensures { result ≡ spec.field_line line.now }
 {
     let Some(at) = place_of_colon(line) else {
@@ -61,7 +61,7 @@ pub fn read_field(line: &[u8]) -> Result<SentField<'_>, Refusal>
 }
 
 /// A name with an underscore can't be told from one with a hyphen in an environ.
-pub fn is_kept(field: &SentField<'_>) -> bool
+pub(crate) fn is_kept(field: &SentField<'_>) -> bool
     ensures { result ≡ spec.is_kept field.now }
 {
     !field.name.contains(&b'_')

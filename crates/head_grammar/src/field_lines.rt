@@ -44,7 +44,7 @@ fn read_kept(alloc: Global, mut lines: Lines<'_>) -> Result<Result<FieldList, Re
 
 /// The fields of the lines, or the refusal of the first bad line.
 #[tactic(auto, unfolding(crate::specs::FieldLines::fields_of))]
-pub fn read_fields(
+pub(crate) fn read_fields(
     alloc: Global,
     lines: Lines<'_>,
 ) -> Result<Result<FieldList, Refusal>, AllocError>

@@ -73,7 +73,8 @@ impl<'a> Fields<'a> {
 impl<'a> Iterator for Fields<'a> {
     type Item = (&'a [u8], &'a [u8]);
 
-    ghost next_gives = { YieldsFirstBy (λ pair. field_of pair.0.now pair.1.now) (λ fields. fields) };
+    ghost next_gives = { YieldsFirstBy (λ pair. field_of pair.0.now pair.1.now)
+        (λ fields. fields) };
 
     ghost remaining = { item_count (λ fields. fields) };
 

@@ -41,7 +41,11 @@ fn by_coding(version: Version, coding: &[u8]) -> Result<Framing, Refusal>
 /// How the length of a body is known (RFC 9112, section 6.3). A body has fewer than `max_body`
 /// bytes.
 #[tactic(auto, unfolding(crate::specs::Framings::framing_of))]
-pub fn framing(version: Version, fields: &Fields<'_>, max_body: u64) -> Result<Framing, Refusal>
+pub(crate) fn framing(
+    version: Version,
+    fields: &Fields<'_>,
+    max_body: u64,
+) -> Result<Framing, Refusal>
     ensures { result ≡ spec.framing_of version fields.now max_body }
 {
     if let Some(coding) = fields.value_of(b"transfer-encoding") {
@@ -54,7 +58,7 @@ pub fn framing(version: Version, fields: &Fields<'_>, max_body: u64) -> Result<F
 }
 
 /// Whether the client waits for `100 Continue` (RFC 9110, section 10.1.1).
-pub fn expects(version: Version, fields: &Fields<'_>, framing: Framing) -> bool
+pub(crate) fn expects(version: Version, fields: &Fields<'_>, framing: Framing) -> bool
     ensures { result ≡ spec.expects_of version fields.now framing }
 {
     if version == Version::Old || framing == Framing::Empty {
@@ -113,7 +117,7 @@ fn has_both(fields: &Fields<'_>) -> bool
 
 /// Whether the connection closes behind the response (RFC 9112, sections 6.1 and 9.3).
 #[tactic(auto, unfolding(crate::specs::Framings::closes_of))]
-pub fn closes(version: Version, fields: &Fields<'_>) -> bool
+pub(crate) fn closes(version: Version, fields: &Fields<'_>) -> bool
     ensures { result ≡ spec.closes_of version fields.now }
 {
     is_asked_to_close(version, fields) || has_both(fields)

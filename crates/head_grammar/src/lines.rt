@@ -33,7 +33,7 @@ fn first_continues(text: &[u8]) -> bool
 /// The lines of a text: CR LF ends each of them (RFC 9112, section 2.1), and the last one may
 /// stand without.
 #[derive(Drop)]
-pub struct Lines<'a> {
+pub(crate) struct Lines<'a> {
     rest: &'a [u8],
     // the search for CR LF, which is prepared once
     mark: Finder<'static>,
@@ -51,7 +51,7 @@ impl<'a> Model for Lines<'a> {
 }
 
 impl<'a> Lines<'a> {
-    pub fn new(text: &'a [u8]) -> Lines<'a>
+    pub(crate) fn new(text: &'a [u8]) -> Lines<'a>
         ensures { result ≡ lines text.now }
     {
         Lines {
@@ -61,12 +61,12 @@ impl<'a> Lines<'a> {
     }
 
     /// How many bytes are left.
-    pub fn size(&self) -> usize {
+    pub(crate) fn size(&self) -> usize {
         self.rest.len()
     }
 
     /// Takes off the empty lines in front and the line behind them, and gives that line.
-    pub fn skip_empty(&mut self) -> Option<&'a [u8]>
+    pub(crate) fn skip_empty(&mut self) -> Option<&'a [u8]>
         ensures some { IfSome result (λ line. skip_empty self.old ≡ line.now ∷ self.new) }
         ensures none { IfNone result (skip_empty self.old ≡ []) }
     {
@@ -79,14 +79,14 @@ impl<'a> Lines<'a> {
     }
 
     /// Whether the next line continues the line before it (RFC 9112, section 5.2).
-    pub fn next_continues(&self) -> bool
+    pub(crate) fn next_continues(&self) -> bool
         ensures { result ≡ first_continues self.now }
     {
         first_continues(self.rest)
     }
 
     /// Takes the next line off where it continues the line before it.
-    pub fn next_continued(&mut self) -> Option<&'a [u8]>
+    pub(crate) fn next_continued(&mut self) -> Option<&'a [u8]>
         ensures some { IfSome result (λ line. self.old ≡ line.now ∷ self.new) }
         ensures continued { IfSome result (λ line. continues line.now ≡ true) }
         ensures none { IfNone result (self.new ≡ self.old) }

@@ -12,7 +12,7 @@ use std::marker::Model;
 
 /// A request line (RFC 9112, section 3).
 #[derive(Debug, Drop)]
-pub struct RequestLine {
+pub(crate) struct RequestLine {
     // the method, the target, the path and the query, one behind the other
     text: Vec<u8>,
     method_end: usize,
@@ -40,31 +40,31 @@ impl Model for RequestLine {
 }
 
 impl RequestLine {
-    pub fn method(&self) -> &[u8]
+    pub(crate) fn method(&self) -> &[u8]
         ensures { result.now ≡ self.now.method }
     {
         &self.text[..self.method_end]
     }
 
-    pub fn target(&self) -> &[u8]
+    pub(crate) fn target(&self) -> &[u8]
         ensures { result.now ≡ self.now.target }
     {
         &self.text[self.method_end..self.target_end]
     }
 
-    pub fn path(&self) -> &[u8]
+    pub(crate) fn path(&self) -> &[u8]
         ensures { result.now ≡ self.now.path }
     {
         &self.text[self.target_end..self.path_end]
     }
 
-    pub fn query(&self) -> &[u8]
+    pub(crate) fn query(&self) -> &[u8]
         ensures { result.now ≡ self.now.query }
     {
         &self.text[self.path_end..]
     }
 
-    pub fn version(&self) -> Version
+    pub(crate) fn version(&self) -> Version
         ensures { result ≡ self.now.version }
     {
         self.version
@@ -162,7 +162,7 @@ fn line_of(
 
 /// What a request line says, or its refusal.
 #[tactic(auto, unfolding(crate::specs::RequestLines::request_line))]
-pub fn read_request_line(
+pub(crate) fn read_request_line(
     alloc: Global,
     line: &[u8],
 ) -> Result<Result<RequestLine, Refusal>, AllocError>

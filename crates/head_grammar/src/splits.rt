@@ -3,7 +3,7 @@ ghost use Rattle.std.specs.Prelude.{◌≡◌, ◌≤◌, ◌<◌, ◌==◌, len
 ghost use Rattle.head_grammar.specs.Targets as spec;
 
 /// The place of the first of these bytes.
-pub fn place_of(bytes: &[u8], sought: u8) -> Option<usize>
+pub(crate) fn place_of(bytes: &[u8], sought: u8) -> Option<usize>
     ensures first { result ≡ position (λ b. b == sought) bytes.now }
     ensures within { IfSome result (λ at. at < length bytes.now) }
 {
@@ -11,7 +11,7 @@ pub fn place_of(bytes: &[u8], sought: u8) -> Option<usize>
 }
 
 /// The same, or the end of the bytes where none stands there.
-pub fn place_or_end(bytes: &[u8], sought: u8) -> usize
+pub(crate) fn place_or_end(bytes: &[u8], sought: u8) -> usize
     ensures place { result ≡ spec.place_or_end sought bytes.now }
     ensures within { result ≤ length bytes.now }
 {
@@ -19,7 +19,7 @@ pub fn place_or_end(bytes: &[u8], sought: u8) -> usize
 }
 
 /// What stands before the first of these bytes, and what behind it.
-pub fn cut_at(bytes: &[u8], sought: u8) -> (&[u8], &[u8])
+pub(crate) fn cut_at(bytes: &[u8], sought: u8) -> (&[u8], &[u8])
     ensures before { result.0.now ≡ spec.before sought bytes.now }
     ensures behind { result.1.now ≡ spec.behind sought bytes.now }
 {

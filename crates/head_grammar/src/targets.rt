@@ -49,7 +49,7 @@ fn without_slashes(decoded: PercentDecode<'_>) -> PercentDecode<'_>
 }
 
 /// Adds the path of a target, of which this was sent. The escapes are read in the one copy.
-pub fn push_path(text: &mut Vec<u8>, raw: &[u8]) -> Result<(), AllocError>
+pub(crate) fn push_path(text: &mut Vec<u8>, raw: &[u8]) -> Result<(), AllocError>
     ensures { OnOk result (text.new.items
         ≡ text.old.items ++ spec.rooted (percent.percent_decode raw.now)) }
 {
@@ -59,7 +59,7 @@ pub fn push_path(text: &mut Vec<u8>, raw: &[u8]) -> Result<(), AllocError>
 
 /// The path of a target as it was sent, and the query (RFC 9112, section 3.2).
 #[tactic(auto, unfolding(crate::specs::Targets::query_of))]
-pub fn cut_target(target: &[u8]) -> (&[u8], &[u8])
+pub(crate) fn cut_target(target: &[u8]) -> (&[u8], &[u8])
     ensures path { result.0.now ≡ spec.raw_path target.now }
     ensures query { result.1.now ≡ spec.query_of target.now }
 {

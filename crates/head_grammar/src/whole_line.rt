@@ -9,13 +9,13 @@ use std::alloc::{AllocError, Global};
 
 /// A line as it was sent, or joined with those that continue it.
 #[derive(Drop)]
-pub enum WholeLine<'a> {
+pub(crate) enum WholeLine<'a> {
     Sent(&'a [u8]),
     Joined(Vec<u8>),
 }
 
 impl<'a> WholeLine<'a> {
-    pub fn as_slice(&self) -> &[u8]
+    pub(crate) fn as_slice(&self) -> &[u8]
         ensures { result.now ≡ bytes_of self.now }
     {
         match self {
@@ -40,7 +40,7 @@ fn joined(alloc: Global, line: &[u8], lines: &mut Lines<'_>) -> Result<Vec<u8>, 
 }
 
 /// The line with those that continue it, which are taken off.
-pub fn whole_line<'a>(
+pub(crate) fn whole_line<'a>(
     alloc: Global,
     line: &'a [u8],
     lines: &mut Lines<'a>,

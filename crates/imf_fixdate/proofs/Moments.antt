@@ -21,8 +21,10 @@ pub record Found (size total : ℕ → ℕ) (r : ℕ × ℕ) (n more days : ℕ)
 module _ (size total : ℕ → ℕ) (more_total : (n : ℕ) → total (suc n) ≡ total n + size n) where
   span_step : (t : Bool) (n more days : ℕ) → (t ≡ true → days < size n) →
       (t ≡ false → Found size total (span_of size more (suc n) (days - size n)) n (suc more) days) →
-      Found size total (cond t (n, days) (span_of size more (suc n) (days - size n))) n (suc more) days
-  span_step true n more days h ih = let l = h refl in record { same = refl; within = l; low = omega arith }
+      Found size total (cond t (n, days) (span_of size more (suc n) (days - size n))) n
+      (suc more) days
+  span_step true n more days h ih = let l = h refl in record
+      { same = refl; within = l; low = omega arith }
   span_step false n more days h ih = ih refl
 
   later : (r : ℕ × ℕ) (n more days : ℕ) → size n ≤ days →
@@ -81,7 +83,8 @@ month_found y days h =
 
 -- the seconds of a day and of a time of day
 seconds : (secs d : ℕ) → d ≡ secs / 86400 →
-    d * 86400 + secs % 86400 / 3600 * 3600 + secs % 86400 % 3600 / 60 * 60 + secs % 86400 % 3600 % 60 ≡ secs
+    d * 86400 + secs % 86400 / 3600 * 3600 + secs % 86400 % 3600 / 60 * 60 + secs % 86400 %
+    3600 % 60 ≡ secs
 seconds secs d e = omega arith
 
 -- the days of the date that was found

@@ -40,9 +40,9 @@ pub fn run_in_memory<W: Threads + Wait + Sync>(
     ensures fronts { Added (IsSentFront (owed (words_of words.now) held.old.tree.files))
         held.old.net.state.closed held.new.net.state.closed }
 
-    // One that ended with less had a fault of its link, of a spill or of a file, was refused memory,
-    // kept the server waiting for too long, or was open when the server went down. The faults of
-    // spills and of files are counted.
+    // One that ended with less had a fault of its link, of a spill or of a file, was refused
+    // memory, kept the server waiting for too long, or was open when the server went down. The
+    // faults of spills and of files are counted.
     ensures ends { Added (EndsFor (words_of words.now) held.old.tree.files
         (reasons (words_of words.now) result held.old.net.state held.new.net.state
         held.old.err.faults held.new.err.faults) held.new.net.state)

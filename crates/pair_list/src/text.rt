@@ -5,7 +5,7 @@ ghost use Rattle.std.specs.Vec.{vec_len, vec_capacity};
 use crate::Letters;
 
 /// Adds to a text that has room.
-pub fn put(text: &mut Vec<u8>, more: &[u8])
+pub(crate) fn put(text: &mut Vec<u8>, more: &[u8])
     requires room { vec_len text.old + length more.now ≤ vec_capacity text.old }
     ensures items { text.new.items ≡ text.old.items ++ more.now }
     ensures len { vec_len text.new ≡ vec_len text.old + length more.now }
@@ -17,7 +17,7 @@ pub fn put(text: &mut Vec<u8>, more: &[u8])
 }
 
 /// Adds a name in these letters to a text that has room.
-pub fn put_as<L: Letters>(text: &mut Vec<u8>, name: &[u8])
+pub(crate) fn put_as<L: Letters>(text: &mut Vec<u8>, name: &[u8])
     requires room { vec_len text.old + length name.now ≤ vec_capacity text.old }
     ensures items { text.new.items ≡ text.old.items ++ map L.form name.now }
     ensures len { vec_len text.new ≡ vec_len text.old + length name.now }

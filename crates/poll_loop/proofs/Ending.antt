@@ -464,14 +464,16 @@ module _ {L P A R : Type 0} (tells : Telling) (script : A → Script) (run_fault
           GoesOn (holds_on settings app) e.plan settings.serve_limit first now a c
       serve_again now same same' g accounts came stopped knows =
           goes_again (holds_on settings app) e.plan settings.serve_limit first before now a b c
-          (entry_holds_later (service_by tells script settings app) (going_on (HasBroken run_faults))
+          (entry_holds_later (service_by tells script settings app)
+          (going_on (HasBroken run_faults))
           e.state e.faults) g
           (subst (λ x. Accounts (holds_on settings x) e.plan b c) same'
           (subst (λ x. Accounts (holds_on x app') e.plan b c) same accounts))
           (subst (λ x. CameMore x.serve_limit before now (length b.net.given) (length c.net.given))
           same came) stopped knows
 
-      pub serve_ended : (was result : Result Going ServeFault) → was ≡ result → settings' ≡ settings →
+      pub serve_ended : (was result : Result Going ServeFault) → was ≡ result →
+          settings' ≡ settings →
           app' ≡ app →
           GoesOn (holds_on settings app) e.plan settings.serve_limit first before a b →
           Served was (holds_on settings' app') (holds_down settings' app') e.plan b c →
@@ -487,7 +489,8 @@ module _ {L P A R : Type 0} (tells : Telling) (script : A → Script) (run_fault
           (subst (λ x. Served was (holds_on x app') (holds_down x app') e.plan b c) same served)))
           still
 
-      pub serve_ends : (was result : Result Going ServeFault) → was ≡ result → settings' ≡ settings →
+      pub serve_ends : (was result : Result Going ServeFault) → was ≡ result →
+          settings' ≡ settings →
           GoesOn (holds_on settings app) e.plan settings.serve_limit first before a b →
           ServeEnds was settings'.serve_limit before b.net c.net →
           ServeEnds result settings.serve_limit first a.net c.net

@@ -118,7 +118,8 @@ fn accept_one<'a, N: Net, A: App<P::Spill>, P: Spills>(
     requires shelf { length connections.old.fallen.items + length connections.old.seats.items ≤
         vec_capacity connections.old.fallen }
     requires within { IsTrue N.tells → IsWithin (N.state net.old) opening.now.moment }
-    requires more { IsTrue (is_below opening.now.settings.now.serve_limit connections.old.accepted) }
+    requires more { IsTrue (is_below opening.now.settings.now.serve_limit
+        connections.old.accepted) }
     requires bounded { IsSome opening.now.settings.now.serve_limit →
         connections.old.accepted < 2 ^ 64 - 1 }
     requires counted { Counted opening.now.settings.now.serve_limit connections.old.accepted

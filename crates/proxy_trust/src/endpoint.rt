@@ -9,9 +9,9 @@ use std::alloc::{AllocError, Global};
 
 /// An address, without brackets, and a port as it was sent.
 #[derive(Debug, Drop)]
-pub struct Endpoint {
-    pub address: Bytes,
-    pub port: Option<Bytes>,
+pub(crate) struct Endpoint {
+    pub(crate) address: Bytes,
+    pub(crate) port: Option<Bytes>,
 }
 
 fn is_address_byte(byte: u8) -> bool
@@ -33,7 +33,7 @@ fn is_address(bytes: &[u8]) -> bool
 }
 
 /// Whether these bytes write a port (RFC 7239, section 6) that TCP has.
-pub fn is_port(bytes: &[u8]) -> bool
+pub(crate) fn is_port(bytes: &[u8]) -> bool
     ensures { result ≡ spec.is_port bytes.now }
 {
     bytes.len() <= 5 && is_number(bytes) && matches!(number_of(bytes), Some(1..=65_535))
@@ -102,7 +102,7 @@ fn read_bare(alloc: Global, part: &[u8]) -> Result<Option<Endpoint>, AllocError>
 }
 
 /// What a part of a list says, or None where it is no endpoint.
-pub fn read_endpoint(alloc: Global, part: &[u8]) -> Result<Option<Endpoint>, AllocError>
+pub(crate) fn read_endpoint(alloc: Global, part: &[u8]) -> Result<Option<Endpoint>, AllocError>
     ensures { IfOk result (λ endpoint. endpoint ≡ spec.endpoint part.now) }
 {
     match part.split_first() {

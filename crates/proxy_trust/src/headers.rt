@@ -8,7 +8,7 @@ use head_grammar::Fields;
 use outside::{Bytes, Kind, Peer};
 
 /// The name of a kind's header, in lower case.
-pub fn name_of(kind: Kind) -> &'static [u8]
+pub(crate) fn name_of(kind: Kind) -> &'static [u8]
     ensures { result.now ≡ spec.name_of kind }
 {
     match kind {
@@ -31,14 +31,14 @@ const KINDS: [Kind; 6] = [
 ];
 
 /// Whether a name is that of a proxy header.
-pub fn is_proxy_name(name: &[u8]) -> bool
+pub(crate) fn is_proxy_name(name: &[u8]) -> bool
     ensures { result ≡ spec.is_proxy_name name.now }
 {
     KINDS.iter().any(|kind| name == name_of(*kind))
 }
 
 /// Whether a kind stands in the list.
-pub fn is_listed(kind: Kind, kinds: &[Kind]) -> bool
+pub(crate) fn is_listed(kind: Kind, kinds: &[Kind]) -> bool
     ensures { result ≡ spec.is_listed kind kinds.now }
 {
     kinds.contains(&kind)
@@ -54,7 +54,7 @@ fn is_proxy(proxy: &Option<Bytes>, address: &[u8]) -> bool
 }
 
 /// The value of a header that is believed, where there is one.
-pub fn used<'a>(
+pub(crate) fn used<'a>(
     rules: &ProxyRules,
     peer: &Peer,
     fields: &Fields<'a>,

@@ -9,10 +9,10 @@ use head_grammar::Fields;
 use outside::{Bytes, Items};
 use std::alloc::{AllocError, Global};
 
-pub const HOST: &[u8] = b"host";
+pub(crate) const HOST: &[u8] = b"host";
 
 /// Adds a new field, where there is a value for it.
-pub fn add_new<'a>(
+pub(crate) fn add_new<'a>(
     news: &mut Vec<KeptField<'a>>,
     name: &'a [u8],
     value: Option<Bytes>,
@@ -64,7 +64,7 @@ fn keep<'a>(
 
 /// The fields, where new ones stand in place of the first ones of their names.
 #[tactic(auto, unfolding(crate::specs::Kept::kept_fields))]
-pub fn keep_fields<'a>(
+pub(crate) fn keep_fields<'a>(
     alloc: Global,
     fields: &Fields<'a>,
     mut news: Vec<KeptField<'a>>,

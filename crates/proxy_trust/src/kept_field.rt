@@ -6,7 +6,7 @@ use outside::Bytes;
 use std::marker::Model;
 
 #[derive(Debug, Drop)]
-pub enum KeptValue<'a> {
+pub(crate) enum KeptValue<'a> {
     /// As the head has it.
     Sent(&'a [u8]),
     /// What is believed of it.

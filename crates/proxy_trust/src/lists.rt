@@ -40,9 +40,9 @@ fn join(alloc: Global, parts: &[&[u8]]) -> Result<Bytes, AllocError>
 
 /// A list as it is kept, and its first part.
 #[derive(Drop)]
-pub struct LastParts<'a> {
-    pub kept: Bytes,
-    pub chosen: &'a [u8],
+pub(crate) struct LastParts<'a> {
+    pub(crate) kept: Bytes,
+    pub(crate) chosen: &'a [u8],
 }
 
 fn last_of<'p, 'a>(parts: &'p [&'a [u8]], count: u32) -> &'p [&'a [u8]]
@@ -65,7 +65,7 @@ fn read_last<'a>(alloc: Global, parts: &[&'a [u8]]) -> Result<Option<LastParts<'
 }
 
 /// The last `count` parts of a list, or all where there are fewer; None where a part is empty.
-pub fn read_list<'a>(
+pub(crate) fn read_list<'a>(
     alloc: Global,
     value: &'a [u8],
     count: u32,

@@ -15,41 +15,41 @@ use std::alloc::Global;
 
 /// What `X-Forwarded-For` says: the list as it is kept, and where the request came from.
 #[derive(Debug, Drop)]
-pub struct ClientList {
-    pub kept: Bytes,
-    pub from: Endpoint,
+pub(crate) struct ClientList {
+    pub(crate) kept: Bytes,
+    pub(crate) from: Endpoint,
 }
 
 /// What `X-Forwarded-Host` says: the list as it is kept, the value of the Host field that the
 /// first proxy got, and its parts.
 #[derive(Debug, Drop)]
-pub struct HostList {
-    pub kept: Bytes,
-    pub field: Bytes,
-    pub host: Endpoint,
+pub(crate) struct HostList {
+    pub(crate) kept: Bytes,
+    pub(crate) field: Bytes,
+    pub(crate) host: Endpoint,
 }
 
 #[derive(Clone, Copy, Debug, PartialEq, Eq)]
-pub enum Scheme {
+pub(crate) enum Scheme {
     Http,
     Https,
 }
 
 /// What `X-Forwarded-Proto` says: the scheme as it was sent, and which one it is.
 #[derive(Debug, Drop)]
-pub struct SentScheme {
-    pub kept: Bytes,
-    pub scheme: Scheme,
+pub(crate) struct SentScheme {
+    pub(crate) kept: Bytes,
+    pub(crate) scheme: Scheme,
 }
 
 /// What all proxy headers say that are believed.
 #[derive(Debug, Drop)]
-pub struct ProxyHeaders {
-    pub clients: Option<ClientList>,
-    pub hosts: Option<HostList>,
-    pub proto: Option<SentScheme>,
-    pub port: Option<Bytes>,
-    pub by: Option<Bytes>,
+pub(crate) struct ProxyHeaders {
+    pub(crate) clients: Option<ClientList>,
+    pub(crate) hosts: Option<HostList>,
+    pub(crate) proto: Option<SentScheme>,
+    pub(crate) port: Option<Bytes>,
+    pub(crate) by: Option<Bytes>,
 }
 
 fn read_clients(
@@ -149,7 +149,7 @@ fn read_by(alloc: Global, value: Option<&[u8]>, count: u32) -> Result<Option<Byt
 }
 
 /// What all proxy headers say that are believed, or the first malformed one.
-pub fn read_all(
+pub(crate) fn read_all(
     alloc: Global,
     rules: &ProxyRules,
     peer: &Peer,

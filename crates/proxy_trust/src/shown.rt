@@ -11,7 +11,7 @@ use std::alloc::{AllocError, Global};
 const ALL: &[Kind] = &[Kind::By, Kind::Port, Kind::Proto, Kind::Host, Kind::For];
 
 #[derive(Clone, Copy)]
-pub struct Rules {
+pub(crate) struct Rules {
     proxy: &'static str,
     count: u32,
     kinds: &'static [Kind],
@@ -19,42 +19,42 @@ pub struct Rules {
 }
 
 // Every peer is believed, in all that it tells.
-pub const EVERY: Rules = Rules {
+pub(crate) const EVERY: Rules = Rules {
     proxy: "*",
     count: 1,
     kinds: ALL,
     clear: true,
 };
 
-pub const LOCAL: Rules = Rules {
+pub(crate) const LOCAL: Rules = Rules {
     proxy: "127.0.0.1",
     count: 1,
     kinds: &[Kind::For, Kind::Proto],
     clear: true,
 };
 
-pub const KEEPING: Rules = Rules {
+pub(crate) const KEEPING: Rules = Rules {
     proxy: "127.0.0.1",
     count: 1,
     kinds: &[Kind::For, Kind::Proto],
     clear: false,
 };
 
-pub const KEEPING_ALL: Rules = Rules {
+pub(crate) const KEEPING_ALL: Rules = Rules {
     proxy: "*",
     count: 1,
     kinds: ALL,
     clear: false,
 };
 
-pub const NOBODY: Rules = Rules {
+pub(crate) const NOBODY: Rules = Rules {
     proxy: "",
     count: 1,
     kinds: ALL,
     clear: true,
 };
 
-pub fn counting(count: u32) -> Rules {
+pub(crate) fn counting(count: u32) -> Rules {
     Rules {
         proxy: "*",
         count,
@@ -162,7 +162,7 @@ fn answer(alloc: Global, rules: Rules, addr: &str, fields: &str) -> Result<Vec<u
     Ok(text)
 }
 
-pub fn holds(alloc: Global, rules: Rules, addr: &str, fields: &str, want: &str) -> bool {
+pub(crate) fn holds(alloc: Global, rules: Rules, addr: &str, fields: &str, want: &str) -> bool {
     match answer(alloc, rules, addr, fields) {
         Ok(text) => text.as_slice() == want.as_bytes(),
         Err(_) => false,

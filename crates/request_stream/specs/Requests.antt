@@ -55,7 +55,8 @@ version_coded = code_by Bool coded_bool is_new version_by version_is
 
 abbrev framing_coded : Coded Framing
 framing_coded =
-    code_by (Option (Option ℕ)) (coded_option (coded_option coded_ℕ)) length_in framing_by framing_is
+    code_by (Option (Option ℕ)) (coded_option (coded_option coded_ℕ)) length_in
+    framing_by framing_is
 
 abbrev field_coded : Coded Field
 field_coded = code_by (List ℕ × List ℕ) (coded× bytes_coded bytes_coded)

@@ -15,9 +15,15 @@ pub record Buffered (S : Type 0) : Type 0 where
   pub spill : S
 
 abbrev pub buffered_coded : {S : Type 0} → Coded S → Coded (Buffered S)
-buffered_coded {S} s = code_by (List ℕ × (ℕ × (ℕ × S))) (coded× (coded_list coded_ℕ) (coded× coded_ℕ (coded× coded_ℕ s)))
+buffered_coded {S} s = code_by (List ℕ × (ℕ × (ℕ × S))) (coded× (coded_list coded_ℕ)
+    (coded× coded_ℕ (coded× coded_ℕ s)))
     (λ b. (b.bytes, (b.in_memory, (b.overflow, b.spill))))
-    (λ p. record { bytes = p.0; in_memory = p.1.0; overflow = p.1.1.0; spill = p.1.1.1 }) (λ _. refl)
+    (λ p. record {
+      bytes = p.0;
+      in_memory = p.1.0;
+      overflow = p.1.1.0;
+      spill = p.1.1.1;
+    }) (λ _. refl)
 
 -- the bytes are the expected ones where it is told, and as many elsewhere
 pub record IsToldAs (tells : Bool) (bytes expected : List ℕ) : Type 0 where

@@ -47,7 +47,12 @@ impl<S: Spill> OverflowBuffer<S> {
     /// An empty buffer. From `overflow` bytes on they stand in the spill.
     pub fn new(alloc: Global, spill: S, overflow: u64) -> OverflowBuffer<S>
         requires { 1 ≤ overflow }
-        ensures { result ≡ record { bytes = []; in_memory = 0; overflow = overflow; spill = spill } }
+        ensures { result ≡ record {
+          bytes = [];
+          in_memory = 0;
+          overflow = overflow;
+          spill = spill;
+        } }
     {
         OverflowBuffer {
             memory: Vec::new(alloc),
@@ -61,7 +66,8 @@ impl<S: Spill> OverflowBuffer<S> {
 
     /// Puts bytes behind those that are there, or none of them.
     pub fn append(&mut self, from: &[u8]) -> Result<(), BufferFault>
-        ensures appended { OnOk result (IsToldAs S.tells self.new.bytes (self.old.bytes ++ from.now)) }
+        ensures appended { OnOk result (IsToldAs S.tells self.new.bytes
+            (self.old.bytes ++ from.now)) }
         ensures kept { OnErr result (IsToldAs S.tells self.new.bytes self.old.bytes) }
         ensures cause { SpillCause result (S.faults self.old.spill) (S.faults self.new.spill) }
         ensures in_memory { OnOk result (self.old.in_memory ≡ length self.old.bytes
@@ -113,7 +119,8 @@ impl<S: Spill> OverflowBuffer<S> {
     /// in `into` behind them, and all of it after a failure, is left open.
     pub fn front(&mut self, into: &mut [u8]) -> Result<usize, BufferFault>
         ensures count { IfOk result (λ n. n ≡ min (length into.old) (length self.old.bytes)) }
-        ensures front { IsTrue S.tells → IfOk result (λ n. take n into.new ≡ take n self.old.bytes) }
+        ensures front { IsTrue S.tells → IfOk result (λ n. take n into.new ≡ take n
+            self.old.bytes) }
         ensures kept { IsToldAs S.tells self.new.bytes self.old.bytes }
         ensures cause { SpillCause result (S.faults self.old.spill) (S.faults self.new.spill) }
         ensures needs_no_memory { result ≢ Err NoMemory }

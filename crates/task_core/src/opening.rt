@@ -105,7 +105,8 @@ fn fill(
     bytes: Bytes,
     whole: bool,
 ) -> Result<(Wrote, State), AllocError>
-    ensures { IfOk result (Goes request.now (state.Opening given) (Some (byte_string whole bytes))) }
+    ensures { IfOk result (Goes request.now (state.Opening given)
+        (Some (byte_string whole bytes))) }
 {
     if bytes.is_empty() {
         return Ok(wait(alloc, given));

@@ -44,7 +44,8 @@ impl Task {
     #[tactic(auto, unfolding(crate::specs::Steps::is_under_way, crate::specs::Steps::remaining))]
     pub fn step(&mut self, alloc: Global, step: Option<Step>) -> Result<Wrote, NoMemory>
         requires { IsTrue (is_under_way self.old) }
-        ensures under_way { IfOk result (λ wrote. is_under_way self.new ≡ not (is_some wrote.ended)) }
+        ensures under_way { IfOk result (λ wrote. is_under_way self.new ≡ not
+            (is_some wrote.ended)) }
         ensures answer { IfOk result (λ wrote. GoesBy (remaining self.old) step wrote
             (remaining self.new)) }
         ensures ended { OnErr result (is_under_way self.new ≡ false) }

@@ -131,21 +131,28 @@ fn two_connections_are_served_over_the_loopback(rt: HostRuntime) -> Result<(), F
     let Some(ended) = ended else {
         return Err(Fail::new("the server could not begin"));
     };
-    assert!(rt; is_dated(
-        &answers.first,
-        b"HTTP/1.0 200 OK\r\nConnection: close\r\nContent-Length: 5\r\n\
+    assert!(rt;
+        is_dated(
+            &answers.first,
+            b"HTTP/1.0 200 OK\r\nConnection: close\r\nContent-Length: 5\r\n\
             Content-Type: application/octet-stream\r\nDate: ",
-        b"\r\nServer: waitress\r\n\r\nfirst",
-    ));
-    assert!(rt; is_dated(
-        &answers.second,
-        b"HTTP/1.1 200 OK\r\nConnection: close\r\nContent-Length: 6\r\n\
+            b"\r\nServer: waitress\r\n\r\nfirst",
+        )
+    );
+    assert!(rt;
+        is_dated(
+            &answers.second,
+            b"HTTP/1.1 200 OK\r\nConnection: close\r\nContent-Length: 6\r\n\
             Content-Type: text/plain\r\nDate: ",
-        b"\r\nServer: waitress\r\n\r\nsecond",
-    ));
+            b"\r\nServer: waitress\r\n\r\nsecond",
+        )
+    );
     assert_eq!(rt; ended.status, 0);
     let line = with_port(rt.alloc(), "Serving on http://127.0.0.1:", port)?;
-    assert_eq!(rt; ended.out.written().strip_suffix(b"\n"), Some(line.as_bytes()));
+    assert_eq!(rt;
+        ended.out.written().strip_suffix(b"\n"),
+        Some(line.as_bytes())
+    );
     assert!(rt; ended.err.written().is_empty());
     Ok(())
 }

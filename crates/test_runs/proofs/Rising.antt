@@ -14,7 +14,8 @@ alone x i =
 behind : (x y : ℕ) (rest : List ℕ) (j : ℕ) →
     moment_at (x ∷ y ∷ rest) (suc j) ≡ moment_at (y ∷ rest) j
 behind x y rest j =
-    let e : min (suc j) (length (x ∷ y ∷ rest) - 1) ≡ suc (min j (length (y ∷ rest) - 1)) = omega arith in
+    let e : min (suc j) (length (x ∷ y ∷ rest) - 1) ≡ suc (min j (length (y ∷ rest) - 1)) =
+    omega arith in
     ap (λ n. get_or (x ∷ y ∷ rest) n 0) e
 
 one : (x : ℕ) → NeverFalls (x ∷ [])

@@ -13,21 +13,21 @@ pub(crate) const FREE: u64 = 0;
 pub(crate) const HELD: u64 = 1;
 
 /// All entries of both ends. Like a `View` it is told of in clauses alone: no value of it is made.
-pub struct Entries<L, R> {
-    pub left: LinkedList<L>,
-    pub right: LinkedList<R>,
+pub(crate) struct Entries<L, R> {
+    pub(crate) left: LinkedList<L>,
+    pub(crate) right: LinkedList<R>,
 }
 
 /// The state, beside the entries of both ends, which have no bytes.
 #[derive(Drop)]
-pub struct Shelf<S, L, R> {
-    pub state: Box<S>,
-    pub entries: Told<Entries<L, R>>,
+pub(crate) struct Shelf<S, L, R> {
+    pub(crate) state: Box<S>,
+    pub(crate) entries: Told<Entries<L, R>>,
 }
 
 /// Which end a seat is. Until the gate is split there is one seat, whose slot is first vacant, then
 /// out with it to be filled, and then has the state.
-pub enum Side {
+pub(crate) enum Side {
     Vacant,
     Filling,
     Whole,
@@ -36,22 +36,22 @@ pub enum Side {
 }
 
 /// What an end knows.
-pub struct View<L, R, F> {
-    pub side: Side,
+pub(crate) struct View<L, R, F> {
+    pub(crate) side: Side,
     /// The left end's entries: its own at the left end, those that it found last at the right end.
-    pub left: LinkedList<L>,
-    pub right: LinkedList<R>,
+    pub(crate) left: LinkedList<L>,
+    pub(crate) right: LinkedList<R>,
     /// What no turn changes.
-    pub fixed: F,
+    pub(crate) fixed: F,
     /// Whether it has the turn.
-    pub has: bool,
+    pub(crate) has: bool,
     /// How many of its takes found the gate held.
-    pub refused: u64,
+    pub(crate) refused: u64,
     /// How many takes of the other end had found the gate held, when this end last gave it up.
-    pub turned_away: u64,
+    pub(crate) turned_away: u64,
 }
 
-pub struct Gate<P> {
+pub(crate) struct Gate<P> {
     pact: PhantomData<P>,
 }
 
@@ -68,14 +68,18 @@ impl<P: Pact> TableRule<
     ghost first = { λ key. alone Vacant (P.fixed key.value) };
 }
 
-pub type Slot<P> = Option<
+pub(crate) type Slot<P> = Option<
     Shelf<<P as Pact>::State, <P as Pact>::LeftEntry, <P as Pact>::RightEntry>,
 >;
 
-pub type Known<P> = View<<P as Pact>::LeftEntry, <P as Pact>::RightEntry, <P as Pact>::Fixed>;
+pub(crate) type Known<P> = View<
+    <P as Pact>::LeftEntry,
+    <P as Pact>::RightEntry,
+    <P as Pact>::Fixed,
+>;
 
-pub type Board<P> = Table<Slot<P>, Known<P>, Snapshot<<P as Pact>::State>, Gate<P>, Global>;
+pub(crate) type Board<P> = Table<Slot<P>, Known<P>, Snapshot<<P as Pact>::State>, Gate<P>, Global>;
 
-pub type SharedBoard<P> = Shared<Slot<P>, Known<P>, Snapshot<<P as Pact>::State>, Gate<P>>;
+pub(crate) type SharedBoard<P> = Shared<Slot<P>, Known<P>, Snapshot<<P as Pact>::State>, Gate<P>>;
 
-pub type Place<P> = Seat<Slot<P>, Known<P>>;
+pub(crate) type Place<P> = Seat<Slot<P>, Known<P>>;

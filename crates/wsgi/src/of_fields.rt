@@ -24,7 +24,7 @@ fn add_field(environ: &mut Environ, field: &KeptField<'_>) -> Result<(), AllocEr
 }
 
 /// Adds the variables of the fields that say nothing of the body.
-pub fn add_fields(environ: &mut Environ, fields: &[KeptField<'_>]) -> Result<(), AllocError>
+pub(crate) fn add_fields(environ: &mut Environ, fields: &[KeptField<'_>]) -> Result<(), AllocError>
     ensures { OnOk result (environ.new ≡ environ.old ++ spec.field_variables fields.now) }
 {
     for field in fields {

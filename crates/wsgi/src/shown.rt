@@ -11,7 +11,7 @@ use proxy_trust::{ProxyFault, ProxyRules};
 use std::alloc::{AllocError, Global};
 
 #[derive(Clone, Copy)]
-pub struct Rules {
+pub(crate) struct Rules {
     proxy: &'static str,
     count: u32,
     kinds: &'static [Kind],
@@ -19,7 +19,7 @@ pub struct Rules {
     prefix: &'static str,
 }
 
-pub const LOCAL: Rules = Rules {
+pub(crate) const LOCAL: Rules = Rules {
     proxy: "127.0.0.1",
     count: 1,
     kinds: &[Kind::For, Kind::Proto],
@@ -27,21 +27,21 @@ pub const LOCAL: Rules = Rules {
     prefix: "/app",
 };
 
-pub const TWO: Rules = Rules {
+pub(crate) const TWO: Rules = Rules {
     proxy: "*",
     count: 2,
     kinds: &[Kind::For],
     ..LOCAL
 };
 
-pub const EVERY: Rules = Rules {
+pub(crate) const EVERY: Rules = Rules {
     proxy: "*",
     count: 1,
     kinds: &[Kind::For, Kind::Host, Kind::Proto, Kind::Port, Kind::By],
     ..LOCAL
 };
 
-pub const BARE: Rules = Rules {
+pub(crate) const BARE: Rules = Rules {
     clear: false,
     prefix: "",
     ..LOCAL
@@ -133,7 +133,7 @@ fn answer(
 }
 
 /// Whether this is shown.
-pub fn holds(
+pub(crate) fn holds(
     alloc: Global,
     rules: Rules,
     addr: &str,

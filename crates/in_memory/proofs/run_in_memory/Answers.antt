@@ -3,7 +3,8 @@ use Rattle.in_memory.proofs.Telling.{all_end, all_fronts, tells}
 use Rattle.in_memory.proofs.run_in_memory.Goals as goal
 
 pub returns-clause-fronts : goal.returns-clause-fronts
-returns-clause-fronts g c = all_fronts _ _ _ _ _ _ (all_end _ _ _ _ _ _ (c.run.ensures.headline refl))
+returns-clause-fronts g c = all_fronts _ _ _ _ _ _ (all_end _ _ _ _ _ _
+    (c.run.ensures.headline refl))
 
 pub returns-clause-ends : goal.returns-clause-ends
 returns-clause-ends g c = all_end _ _ _ _ _ _ (c.run.ensures.headline refl)

@@ -1,5 +1,5 @@
-// A server at the loopback, and who comes to it. These calls have no clauses, so that no test has to
-// carry those of a net.
+// A server at the loopback, and who comes to it. These calls have no clauses, so that no test has
+// to carry those of a net.
 use crate::{MioLink, MioNet, WakeTrigger};
 use outside::{Bytes, End, Link, Listen, Net, Peer, Recv, Sent, Want};
 use std::io;
@@ -8,10 +8,10 @@ use std::test::Fail;
 use std::time::{Duration, Instant};
 
 // How many polls a test makes at most until something comes.
-pub const POLLS: u32 = 20;
+pub(crate) const POLLS: u32 = 20;
 
 #[derive(Drop)]
-pub struct Loopback {
+pub(crate) struct Loopback {
     rt: HostRuntime,
     net: MioNet<HostRuntime>,
     port: u16,
@@ -19,7 +19,7 @@ pub struct Loopback {
 
 // One that was accepted.
 #[derive(Drop)]
-pub struct Visit {
+pub(crate) struct Visit {
     link: MioLink,
     peer: Peer,
 }
@@ -31,7 +31,7 @@ fn free_port(rt: &HostRuntime) -> io::Result<u16> {
 }
 
 impl Loopback {
-    pub fn new(rt: HostRuntime) -> Result<Loopback, Fail> {
+    pub(crate) fn new(rt: HostRuntime) -> Result<Loopback, Fail> {
         let port = free_port(&rt)?;
         let mut server = Loopback::at(rt, port)?;
         if server.binds(&["127.0.0.1"])? {
@@ -48,11 +48,11 @@ impl Loopback {
     }
 
     // Another one for the same port.
-    pub fn rival(&self) -> Result<Loopback, Fail> {
+    pub(crate) fn rival(&self) -> Result<Loopback, Fail> {
         Loopback::at(self.rt, self.port)
     }
 
-    pub fn binds(&mut self, hosts: &[&str]) -> Result<bool, Fail> {
+    pub(crate) fn binds(&mut self, hosts: &[&str]) -> Result<bool, Fail> {
         let alloc = self.rt.alloc();
         let mut listen = Vec::new(alloc);
         for host in hosts {
@@ -64,18 +64,18 @@ impl Loopback {
         Ok(self.net.bind(listen.as_slice()).is_ok())
     }
 
-    pub fn client(&self, host: &str) -> Result<TcpStream, Fail> {
+    pub(crate) fn client(&self, host: &str) -> Result<TcpStream, Fail> {
         let stream = TcpStream::connect(&self.rt, (host, self.port))?;
         stream.set_read_timeout(Some(Duration::from_secs(10)))?;
         Ok(stream)
     }
 
-    pub fn trigger(&self) -> Result<WakeTrigger, Fail> {
+    pub(crate) fn trigger(&self) -> Result<WakeTrigger, Fail> {
         Ok(self.net.trigger()?)
     }
 
     // One poll that asks nothing of any link.
-    pub fn poll(&mut self) -> Result<(), Fail> {
+    pub(crate) fn poll(&mut self) -> Result<(), Fail> {
         self.net.poll(&mut Vec::new(self.rt.alloc()), false)?;
         Ok(())
     }
@@ -87,12 +87,12 @@ impl Loopback {
     }
 
     // Since it may be written too, the poll doesn't wait.
-    pub fn may_read(&mut self, visit: &Visit) -> Result<bool, Fail> {
+    pub(crate) fn may_read(&mut self, visit: &Visit) -> Result<bool, Fail> {
         self.poll_for(want(visit.link.key(), true, true))
     }
 
     // Whether one of the next polls says that it may be read.
-    pub fn will_read(&mut self, visit: &Visit) -> Result<bool, Fail> {
+    pub(crate) fn will_read(&mut self, visit: &Visit) -> Result<bool, Fail> {
         for _ in 0..POLLS {
             if self.may_read(visit)? {
                 return Ok(true);
@@ -102,14 +102,14 @@ impl Loopback {
     }
 
     // Whether a poll waited its second.
-    pub fn waits(&mut self) -> Result<bool, Fail> {
+    pub(crate) fn waits(&mut self) -> Result<bool, Fail> {
         let start = Instant::now(&self.rt)?;
         self.poll()?;
         Ok(start.elapsed(&self.rt)? >= Duration::from_millis(900))
     }
 
     // Whether one of the next polls waits.
-    pub fn comes_to_rest(&mut self) -> Result<bool, Fail> {
+    pub(crate) fn comes_to_rest(&mut self) -> Result<bool, Fail> {
         for _ in 0..POLLS {
             if self.waits()? {
                 return Ok(true);
@@ -119,14 +119,14 @@ impl Loopback {
     }
 
     // Whether it waited though a want asks for nothing.
-    pub fn waits_beside_work(&mut self) -> Result<bool, Fail> {
+    pub(crate) fn waits_beside_work(&mut self) -> Result<bool, Fail> {
         let start = Instant::now(&self.rt)?;
         self.poll_for(want(0, false, false))?;
         Ok(start.elapsed(&self.rt)? >= Duration::from_millis(900))
     }
 
     // One poll, and an accept where it says that somebody came.
-    pub fn accept(&mut self) -> Result<Option<Visit>, Fail> {
+    pub(crate) fn accept(&mut self) -> Result<Option<Visit>, Fail> {
         let alloc = self.rt.alloc();
         let turn = self.net.poll(&mut Vec::new(alloc), true)?;
         if !turn.come {
@@ -139,7 +139,7 @@ impl Loopback {
     }
 
     // The next one who comes.
-    pub fn welcome(&mut self) -> Result<Visit, Fail> {
+    pub(crate) fn welcome(&mut self) -> Result<Visit, Fail> {
         for _ in 0..POLLS {
             if let Some(visit) = self.accept()? {
                 return Ok(visit);
@@ -148,7 +148,7 @@ impl Loopback {
         Err(Fail::new("nobody came"))
     }
 
-    pub fn retire(&mut self, visit: Visit, end: End) {
+    pub(crate) fn retire(&mut self, visit: Visit, end: End) {
         let Visit { link, peer } = visit;
         self.net.retire(link, peer, end);
     }
@@ -165,15 +165,15 @@ fn want(key: u32, read: bool, write: bool) -> Want {
 }
 
 impl Visit {
-    pub fn is_from(&self, host: &str, port: u16) -> bool {
+    pub(crate) fn is_from(&self, host: &str, port: u16) -> bool {
         self.peer.addr.as_slice() == host.as_bytes() && self.peer.port == port
     }
 
-    pub fn recv(&mut self) -> Recv {
+    pub(crate) fn recv(&mut self) -> Recv {
         self.link.recv(0, &mut [0u8; 8])
     }
 
-    pub fn send(&mut self) -> Sent {
+    pub(crate) fn send(&mut self) -> Sent {
         self.link.send(0, b"there")
     }
 }

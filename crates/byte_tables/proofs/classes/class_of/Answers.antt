@@ -31,4 +31,5 @@ returns-clause-hex c = at_byte CLASSES 16 is_hex c.args.byte (omega arith) refl
 pub returns-clause-no_other : goal.returns-clause-no_other
 returns-clause-no_other c =
     ltb-true _ 32
-    (agree_below_at (λ k. nat_lt (get_or CLASSES k 0) 32) (λ _. true) 256 c.args.byte refl (omega arith))
+    (agree_below_at (λ k. nat_lt (get_or CLASSES k 0) 32) (λ _. true) 256 c.args.byte refl
+    (omega arith))

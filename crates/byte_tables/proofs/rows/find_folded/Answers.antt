@@ -6,4 +6,5 @@ use Rattle.byte_tables.proofs.rows.find_folded.Goals as goal
 
 pub returns-clause-first : goal.returns-clause-first
 returns-clause-first g c =
-    c.place_of_folded.ensures.first ∙ sym (position_map (has_name_folded c.args.name.now) row_of c.args.table.now)
+    c.place_of_folded.ensures.first ∙ sym (position_map (has_name_folded c.args.name.now) row_of
+    c.args.table.now)

@@ -1,4 +1,5 @@
--- `tell` makes a value of no bytes, whose ghost field is what the trait tells of what the reference shows.
+-- `tell` makes a value of no bytes, whose ghost field is what the trait tells of what the reference
+-- shows.
 use mathlib.Core.Path.{refl, sym, subst}
 use Prim.Native.Nat.{ℕ}
 use mathlib.Core.List.{List, [], ◌∷◌, ◌++◌}
@@ -43,18 +44,21 @@ module _ (X T P : RattleType) (g : Ghosts P.Denot X.Denot T.Denot) (dict : Dict)
   R = param 0 X
 
   abbrev function : Fn
-  function = inst_fn (bounded (a_type ∷ a_type ∷ a_type ∷ []) (X, (T, (P, tt))) (dcons dict dnil)) code.function
+  function = inst_fn (bounded (a_type ∷ a_type ∷ a_type ∷ []) (X, (T, (P, tt))) (dcons dict dnil))
+      code.function
 
   abbrev stayed : Stays (ended X T P g dict).signature.params (ended X T P g dict).kept
   stayed = (stay_dropped (RefOf (0 ∷ []) tt (plain (λ _. R)) (λ _. tt)) yes, tt)
 
-module _ (X T P : RattleType) (g : Ghosts P.Denot X.Denot T.Denot) (dict : Dict) {M : Type 1} {𝓤 : Ura M} (𝓛 : Logic 𝓤) (at_mem : Memory → SProp 𝓤) (run : Routine → Fun 𝓤) where
+module _ (X T P : RattleType) (g : Ghosts P.Denot X.Denot T.Denot) (dict : Dict) {M : Type 1}
+    {𝓤 : Ura M} (𝓛 : Logic 𝓤) (at_mem : Memory → SProp 𝓤) (run : Routine → Fun 𝓤) where
   open 𝓛 use {H}
 
   abbrev held : Clauses 𝓤 (ended X T P g dict)
   held = clauses X T P g dict 𝓛 at_mem run
 
-  module _ (C : Calls 𝓤 H) (Λ : Loops 𝓤 H) (z : (walk_of 𝓛 (ended X T P g dict) (stayed X T P g dict) held).Ghost) where
+  module _ (C : Calls 𝓤 H) (Λ : Loops 𝓤 H) (z : (walk_of 𝓛 (ended X T P g dict)
+      (stayed X T P g dict) held).Ghost) where
     abbrev At : List Val → (walk_of 𝓛 (ended X T P g dict) (stayed X T P g dict) held).Ghost
     At us = ((z.0.0, z.0.1, z.0.2, z.0.3, (us, tt)), z.1)
 
@@ -62,7 +66,8 @@ module _ (X T P : RattleType) (g : Ghosts P.Denot X.Denot T.Denot) (dict : Dict)
     Post us = (walk_of 𝓛 (ended X T P g dict) (stayed X T P g dict) held).post (At us)
 
     abbrev Goes : List Val → Type 1
-    Goes us = ent 𝓤 ((walk_of 𝓛 (ended X T P g dict) (stayed X T P g dict) held).pre (At us)) (WpFn 𝓤 H C Λ (function X T P g dict) (us ++ []) (Post us))
+    Goes us = ent 𝓤 ((walk_of 𝓛 (ended X T P g dict) (stayed X T P g dict) held).pre (At us))
+        (WpFn 𝓤 H C Λ (function X T P g dict) (us ++ []) (Post us))
 
     abbrev b : ℕ
     b = z.0.3.0.ref_ptr.0
@@ -78,27 +83,50 @@ module _ (X T P : RattleType) (g : Ghosts P.Denot X.Denot T.Denot) (dict : Dict)
 
     walks : Goes (vptr b o ∷ [])
     walks =
-        let v : Val = vstruct (vcons (vstruct vnil) vnil) in let r : Res (ended X T P g dict).signature z.0.0 = record { marker = record {}; value = g.told z.0.3.0.now } in
+        let v : Val = vstruct (vcons (vstruct vnil) vnil) in let r : Res
+        (ended X T P g dict).signature z.0.0 = record {
+          marker = record {};
+          value = g.told
+              z.0.3.0.now;
+        } in
         let O : Fml = (type_at (ended X T P g dict).signature.result z.0.0).own_val r (v ∷ []) in
-        qed 𝓛 ((raw toks ⊛ ‵ passed) ∷ raw ((held z.0.0 z.0.3).requires z.1) ∷ []) ∵ split ! $ keep ! (0 ∷ []) $
-        enter ! C Λ (function X T P g dict) (vptr b o ∷ []) _ $ alloc_all ! (λ l. pass_all ! refl ((tt, tt), tt) $
-        sets ! (agg ! (no_more !)) refl (tt, tt) $ sets ! (agg ! (and_then ! (get ! refl) (no_more !))) refl (tt, (tt, tt)) $
+        qed 𝓛 ((raw toks ⊛ ‵ passed) ∷ raw ((held z.0.0 z.0.3).requires z.1) ∷ []) ∵ split ! $
+        keep ! (0 ∷ []) $
+        enter ! C Λ (function X T P g dict) (vptr b o ∷ []) _ $ alloc_all !
+        (λ l. pass_all ! refl ((tt, tt), tt) $
+        sets ! (agg ! (no_more !)) refl (tt, tt) $ sets ! (agg !
+        (and_then ! (get ! refl) (no_more !))) refl (tt, (tt, tt)) $
         returns ! (look_at ! 0 refl) $ free_all ! refl $
-        use0 𝓛 (‵ O) (makes_shadow 𝓛 O ((λ vss. (tt, ((λ uss. (tt, tt)), tt))), tt) (((vstruct vnil ∷ [], tt), (refl, ((tt, (refl, tt)), tt))), tt)) $
-        suffices ! _ (ends_at 𝓛 (ended X T P g dict) (stayed X T P g dict) held (At (vptr b o ∷ [])) v r (tt, tt) (tt, tt)) $ says ! refl $
+        use0 𝓛 (‵ O) (makes_shadow 𝓛 O ((λ vss. (tt, ((λ uss. (tt, tt)), tt))), tt)
+        (((vstruct vnil ∷ [], tt), (refl, ((tt, (refl, tt)), tt))), tt)) $
+        suffices ! _ (ends_at 𝓛 (ended X T P g dict) (stayed X T P g dict) held (At (vptr b o ∷ []))
+        v r (tt, tt) (tt, tt)) $ says ! refl $
         nothing ! $ nothing ! $ fjoin ! $ join ! $ move ! (1 ∷ 0 ∷ []) $ join ! $ done !)
 
-  meets : (𝓣 : Tables 𝓤 H) → Meets 𝓛 (ended X T P g dict).signature (WpFn 𝓤 H 𝓣.C 𝓣.Λ (function X T P g dict)) (closing 𝓛 (ended X T P g dict) held)
+  meets : (𝓣 : Tables 𝓤 H) → Meets 𝓛 (ended X T P g dict).signature
+      (WpFn 𝓤 H 𝓣.C 𝓣.Λ (function X T P g dict)) (closing 𝓛 (ended X T P g dict) held)
   meets 𝓣 =
-      walk_Meets 𝓛 (ended X T P g dict) (stayed X T P g dict) (Goes-dropped 𝓛 4 (RefOf (0 ∷ []) tt (plain (λ _. R X T P g dict)) (λ _. tt)) yes (λ κs x f. refl), tt) held
+      walk_Meets 𝓛 (ended X T P g dict) (stayed X T P g dict) (
+        Goes-dropped 𝓛 4 (RefOf (0 ∷ []) tt (plain (λ _. R X T P g dict)) (λ _. tt)) yes
+            (λ κs x f. refl),
+        tt,
+      ) held
       (WpFn 𝓤 H 𝓣.C 𝓣.Λ (function X T P g dict)) (WpFn-mono 𝓤 H 𝓛.laws 𝓣 (function X T P g dict))
-      (λ z. let a = z.0.3 in let vss = z.0.4 in let Rs : List RattleType = types_at (ended X T P g dict).signature.params z.0.0 in
-      fact_use 𝓤 (Are Rs (Ises Rs) a vss) (via 𝓤 (sem 𝓛 (owns Rs a vss)) (via 𝓤 (on_entry 𝓛 (ended X T P g dict).signature z.0.0 z.0.1 a vss) (fst∗ 𝓤 (on_entry 𝓛 (ended X T P g dict).signature z.0.0 z.0.1 a vss) ((held z.0.0 a).requires z.1)) (snd∗ 𝓤 (alive 𝓛 (ended X T P g dict).signature z.0.0 z.0.1) (sem 𝓛 (owns Rs a vss)))) (owns_show 𝓛 Rs (Ises Rs) (showss 𝓛 Rs) a vss)) (λ are.
+      (λ z. let a = z.0.3 in let vss = z.0.4 in let Rs : List RattleType = types_at
+      (ended X T P g dict).signature.params z.0.0 in
+      fact_use 𝓤 (Are Rs (Ises Rs) a vss) (via 𝓤 (sem 𝓛 (owns Rs a vss))
+      (via 𝓤 (on_entry 𝓛 (ended X T P g dict).signature z.0.0 z.0.1 a vss)
+      (fst∗ 𝓤 (on_entry 𝓛 (ended X T P g dict).signature z.0.0 z.0.1 a vss)
+      ((held z.0.0 a).requires z.1)) (snd∗ 𝓤 (alive 𝓛 (ended X T P g dict).signature z.0.0
+      z.0.1) (sem 𝓛 (owns Rs a vss)))) (owns_show 𝓛 Rs (Ises Rs) (showss 𝓛 Rs) a vss)) (λ are.
       subst (Goes 𝓣.C 𝓣.Λ z) (sym are.0.0) (walks 𝓣.C 𝓣.Λ z)))
 
 pub tell_spec : {M : Type 1} → statement M
 unfolding tables_of
 tell_spec 𝓤 𝓛 𝓜 𝓡 wired X T P _ _ _ g dict _ =
     let 𝓣 : Tables 𝓤 𝓛.H = tables_of 𝓤 𝓛.H 𝓜 (tables 𝓤 𝓛.H 𝓜 𝓡 𝓡.env) in
-    entered 𝓤 𝓛.H (triple_of 𝓛 (ended X T P g dict).signature (closing 𝓛 (ended X T P g dict) (clauses X T P g dict 𝓛 𝓜.mem 𝓡.returns))) 𝓣.C 𝓣.Λ (#self (bounded (a_type ∷ a_type ∷ a_type ∷ []) (X, (T, (P, tt))) (dcons dict dnil))) (function X T P g dict) (code.unfolded 𝓤 𝓛.H 𝓜 𝓡 wired (X, (T, (P, tt))) dict)
+    entered 𝓤 𝓛.H (triple_of 𝓛 (ended X T P g dict).signature
+    (closing 𝓛 (ended X T P g dict) (clauses X T P g dict 𝓛 𝓜.mem 𝓡.returns))) 𝓣.C 𝓣.Λ
+    (#self (bounded (a_type ∷ a_type ∷ a_type ∷ []) (X, (T, (P, tt))) (dcons dict dnil)))
+    (function X T P g dict) (code.unfolded 𝓤 𝓛.H 𝓜 𝓡 wired (X, (T, (P, tt))) dict)
     (meets X T P g dict 𝓛 𝓜.mem 𝓡.returns 𝓣)

@@ -3,7 +3,8 @@ use Rattle.std.proofs.lemmas.Fmt.{hex_one_digit}
 use Rattle.std.specs.Fmt.{digit_glyph, digits}
 use Rattle.task_core.proofs.HexDigits.{hex_step, last_glyph}
 use Rattle.task_core.proofs.layout.+push_hex.Goals as goal
-use Rattle.task_core.proofs.layout.+push_hex.Goals.{then-number-ge16+in_ok-push_hex, else-number-ge16}
+use Rattle.task_core.proofs.layout.+push_hex.Goals.{then-number-ge16+in_ok-push_hex}
+use Rattle.task_core.proofs.layout.+push_hex.Goals.{else-number-ge16}
 
 pub returns : goal.returns
 returns t c =

@@ -3,26 +3,19 @@ use Rattle.channel.specs.State.{state_of}
 use Rattle.outside.specs.Link.{LinkState}
 use Rattle.channel.specs.declared.acts.LeftAct.TheVariants.{Drained}
 use Rattle.channel.proofs.LeftTurns.{left_fails, lends_of, lent_some, untouched}
+use Rattle.channel.proofs.SideLemmas.{same_near}
 use Rattle.channel.proofs.near.Near.send_lent.Goals as goal
 
 pub returns-in-Took-clause-turns : goal.returns-in-Took-clause-turns
 returns-in-Took-clause-turns g c =
-    let told : c.tell-entry.result.value ≡ Drained (take c.in-Took.count c.lent-bytes.result.now) ∷ [] =
+    let told : c.tell-entry.result.value ≡ Drained (take c.in-Took.count
+    c.lent-bytes.result.now) ∷ [] =
     search rules in
     record {
       side = lends_of _ _ _ (state_of c.args.state.now) (state_of c.skip.new.self) _
           c.lent-bytes.result.now c.in-Took.count c.requires.alive refl refl c.lent-bytes.ensures
-          c.skip.ensures (search rules) told refl
-          (λ t. ap (λ (s : LinkState). s.arrivals) (c.in-Took.ensures.told t))
-          (λ t. ap (λ (s : LinkState). s.sent) (c.in-Took.ensures.told t))
-          (λ was t. was t ∙ sym (ap (λ (s : LinkState). s.ended) (c.in-Took.ensures.told t)))
-          (λ t. sym (ap (λ (s : LinkState). s.touched) (c.in-Took.ensures.told t)));
-      same = record {
-        window = refl;
-        peer = refl;
-        key = c.send.ensures.key;
-        plan = c.send.ensures.plan;
-      };
+          c.skip.ensures (search rules) told refl refl c.in-Took.ensures.told;
+      same = same_near _ _ _ refl refl c.send.ensures.key c.send.ensures.plan;
     }
 
 pub returns-in-Failed-clause-turns : goal.returns-in-Failed-clause-turns
@@ -38,10 +31,5 @@ returns-in-Failed-clause-turns g c =
           (λ was t. was t ∙ sym (ap (λ (s : LinkState). s.ended) (c.in-Failed.ensures.told t)))
           (λ was t. was t ∙ sym (ap (λ (s : LinkState). s.touched) (c.in-Failed.ensures.told t)))
           counted;
-      same = record {
-        window = refl;
-        peer = refl;
-        key = c.send.ensures.key;
-        plan = c.send.ensures.plan;
-      };
+      same = same_near _ _ _ refl refl c.send.ensures.key c.send.ensures.plan;
     }

@@ -3,6 +3,7 @@ use Rattle.channel.specs.State.{state_of}
 use Rattle.outside.specs.Link.{LinkState}
 use Rattle.channel.specs.declared.acts.LeftAct.TheVariants.{Drained}
 use Rattle.channel.proofs.LeftTurns.{drains_of, left_fails}
+use Rattle.channel.proofs.SideLemmas.{same_near}
 use Rattle.channel.proofs.near.Near.send_stored.Goals as goal
 
 pub returns-in-Took-clause-turns : goal.returns-in-Took-clause-turns
@@ -19,13 +20,7 @@ returns-in-Took-clause-turns g c =
           (λ t. ap (λ (s : LinkState). s.sent) (c.in-Took.ensures.told t))
           (λ was t. was t ∙ sym (ap (λ (s : LinkState). s.ended) (c.in-Took.ensures.told t)))
           (λ t. sym (ap (λ (s : LinkState). s.touched) (c.in-Took.ensures.told t)));
-      same = record {
-        window = refl;
-        peer = refl;
-        key = c.send.ensures.key;
-        plan =
-            c.send.ensures.plan;
-      };
+      same = same_near _ _ _ refl refl c.send.ensures.key c.send.ensures.plan;
     }
 
 pub returns-in-Failed-clause-turns : goal.returns-in-Failed-clause-turns
@@ -40,11 +35,5 @@ returns-in-Failed-clause-turns g c =
           (λ was t. was t ∙ sym (ap (λ (s : LinkState). s.ended) (c.in-Failed.ensures.told t)))
           (λ was t. was t ∙ sym (ap (λ (s : LinkState). s.touched) (c.in-Failed.ensures.told t)))
           counted;
-      same = record {
-        window = refl;
-        peer = refl;
-        key = c.send.ensures.key;
-        plan =
-            c.send.ensures.plan;
-      };
+      same = same_near _ _ _ refl refl c.send.ensures.key c.send.ensures.plan;
     }
