@@ -16,6 +16,9 @@ const TRIES: u32 = 500;
 
 const PAUSE_MILLIS: u64 = 20;
 
+// In how many pieces an answer may come.
+const PIECES: u32 = 64;
+
 // How the run ended, and what it printed.
 #[derive(Drop)]
 struct Ended {
@@ -93,13 +96,14 @@ fn come(rt: &HostRuntime, port: u16) -> io::Result<TcpStream> {
 fn answer(alloc: Global, stream: &mut TcpStream) -> io::Result<Vec<u8>> {
     let mut answer = Vec::new(alloc);
     let mut piece = [0u8; 512];
-    loop {
+    for _ in 0..PIECES {
         let count = stream.read(&mut piece)?;
         if count == 0 {
             return Ok(answer);
         }
         answer.extend_from_slice(&piece[..count])?;
     }
+    Err(io::Error::from(io::ErrorKind::InvalidData))
 }
 
 // Both are connected before either asks, and the second one asks first.
@@ -118,9 +122,13 @@ fn visit(rt: HostRuntime, port: u16) -> io::Result<Answers> {
 
 // Whether an answer is these bytes, but for the moment behind the word Date.
 fn is_dated(answer: &[u8], front: &[u8], back: &[u8]) -> bool {
-    answer.len() == front.len() + 29 + back.len()
-        && answer.starts_with(front)
-        && answer.ends_with(back)
+    let Some(dated) = answer.strip_prefix(front) else {
+        return false;
+    };
+    match dated.strip_suffix(back) {
+        Some(date) => date.len() == 29,
+        None => false,
+    }
 }
 
 #[test]
