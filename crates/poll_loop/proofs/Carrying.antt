@@ -12,21 +12,25 @@ use Rattle.outside.specs.declared.types.Peer.{Peer}
 use Rattle.outside.specs.declared.types.Turn.{Turn}
 use Rattle.outside.specs.declared.types.Want.{Want}
 use Rattle.channel.specs.Views.{View, is_late}
-use Rattle.poll_loop.specs.Accounts.{Accounts, Books, IsMet, LastKnows, books, retired_of}
+use Rattle.poll_loop.specs.Accounts.{Accounts, Books, IsMet, LastKnows, TimeGoesOn, books}
+use Rattle.poll_loop.specs.Accounts.{retired_of}
 use Rattle.poll_loop.specs.Connections.{AcceptsAll, CameMore, Counted, OnlyRetires, SamePolls}
 use Rattle.poll_loop.specs.Connections.{SeatIsTimely, Takes, is_kept, seated}
 use Rattle.poll_loop.specs.Entries.{IsWithin}
 use Rattle.poll_loop.specs.Lists.{EachIs}
 use Rattle.poll_loop.specs.NoIdle.{Answers, Hosts, Serving, checked_after, checked_by, views}
 use Rattle.poll_loop.specs.Seat.{Eyes, Labours, SeatRests, viewed}
-use Rattle.poll_loop.specs.Server.{Carries}
+use Rattle.poll_loop.specs.Server.{Carries, StepEnds, Steps}
 use Rattle.poll_loop.specs.Settings.{is_below}
 use Rattle.poll_loop.specs.declared.seat.Seat.{Seat}
+use Rattle.poll_loop.specs.declared.settings.ServeFault.{ServeFault}
 use Rattle.poll_loop.specs.declared.settings.Settings.{Settings}
-use Rattle.poll_loop.proofs.Books.{each_append}
+use Rattle.poll_loop.specs.declared.turning.Why.{Why}
+use Rattle.poll_loop.specs.declared.turning.Why.TheVariants as why
+use Rattle.poll_loop.proofs.Books.{accounts_trans, each_append}
 use Rattle.poll_loop.proofs.Cases.{Turned, news_by, turned}
-use Rattle.poll_loop.proofs.Working.{fewer, hosts_seats, map_length, map_twice, room_after}
-use Rattle.poll_loop.proofs.Working.{timely_goes_on}
+use Rattle.poll_loop.proofs.Working.{accounts_as, fewer, hosted_room, hosted_timely, hosts_seats}
+use Rattle.poll_loop.proofs.Working.{map_length, map_twice, room_after, timely_goes_on, who_is}
 
 -- as many were open or came as were retired or are open
 pub as_many : {L P : Type 0} (Holds : NetState L P → Retired L → Type 0) (plan : L → P)
@@ -86,17 +90,18 @@ within_same old new now s h = record {
 }
 
 -- the connections that came are hosted too
-pub hosts_more : {L P A S R : Type 0} (Holds : NetState L P → Retired L → Type 0) (e : Eyes L P)
+pub hosts_came : {L P A S R : Type 0} (Holds : NetState L P → Retired L → Type 0) (e : Eyes L P)
     (settings : Settings) (app : A) (now : ℕ) (old new : NetState L P) (x y f g : ℕ)
     (olds news : List (Seat L A S P R)) →
     Takes e settings app now olds news → Accounts Holds e.plan (books old x f (seated e olds))
     (books new y g (seated e news)) → SamePolls old new → IsWithin old now →
-    length olds ≤ old.live → EachIs (SeatIsTimely e old) olds →
-    Hosts e new (map (λ seat. seat.lane) news)
-hosts_more Holds e settings app now old new x y f g olds news t a s within few timely =
-    hosts_seats e new news (room_after Holds e old new x y f g olds news a few)
+    Hosts e old (map (λ seat. seat.lane) olds) → Hosts e new (map (λ seat. seat.lane) news)
+hosts_came Holds e settings app now old new x y f g olds news t a s within hosts =
+    hosts_seats e new news (room_after Holds e old new x y f g olds news a
+    (hosted_room e old olds hosts))
     (subst (EachIs (SeatIsTimely e new)) (sym t.are)
-    (each_append (SeatIsTimely e new) olds t.came (timely_goes_on e old new olds a.time timely)
+    (each_append (SeatIsTimely e new) olds t.came
+    (timely_goes_on e old new olds a.time (hosted_timely e old olds hosts))
     (opened_timely e new now t.came (within_same old new now s within) t.opened)))
 
 -- ---- retiring
@@ -300,3 +305,62 @@ limit_met limit limit' before accepted retired seats who_of old new e none n c m
       stopped,
       ap who_of (nobody_left limit accepted retired seats n' c') ∙ none,
     )
+
+-- ---- what is told of a turn behind its poll
+
+-- who has a seat, as the books of a server say it
+abbrev pub open_of : {L P A S R : Type 0} → Eyes L P → List (Seat L A S P R) → List (Peer × P)
+open_of e seats = map (λ lane. (lane.peer, e.plan lane.link)) (map (λ seat. seat.lane) seats)
+
+unstopped_still : {L P : Type 0} (old mid new : NetState L P) → SamePolls old mid →
+    OnlyRetires mid new → old.stopped ≡ false → new.stopped ≡ false
+unstopped_still old mid new same retires unstopped =
+    (polls_same mid new retires).stopped ∙ (same.stopped ∙ unstopped)
+
+module _ {L P A S R : Type 0} (Holds : NetState L P → Retired L → Type 0) (e : Eyes L P)
+    (limit : Option ℕ) (before now : ℕ) (old mid : NetState L P) (x y f g : ℕ)
+    (olds mids : List (Seat L A S P R))
+    (accounts : Accounts Holds e.plan (books old x f (seated e olds)) (books mid y g
+    (seated e mids)))
+    (same : SamePolls old mid) (knows : LastKnows old)
+    (more : CameMore limit before now (length old.given) (length mid.given)) where
+  -- the same accounts, of who is open
+  accounts_open : Accounts Holds e.plan (books old x f (open_of e olds))
+      (books mid y g (open_of e mids))
+  accounts_open = accounts_as Holds e.plan old mid _ _ _ _ _ _ _ _ _ _ _ _ refl refl refl refl
+      (sym (who_is e olds)) (sym (who_is e mids)) accounts
+
+  pub accept_failed : (fault : ServeFault) → Steps (Some (why.Failed fault)) Holds e.plan limit
+      before now (books old x f (open_of e olds)) (books mid y g (open_of e mids))
+  accept_failed fault =
+      let still = knows_on Holds e.plan _ _ accounts_open same.last in
+      record {
+        accounts = accounts_open;
+        knows = record { still = still; either = inr (still knows) };
+        ends = λ stopped. sym same.stopped ∙ stopped;
+        came_more = more;
+      }
+
+  pub worked : (later : (old new : NetState L P) → TimeGoesOn old new → (entry : Retired L) →
+      Holds old entry → Holds new entry) → (why : Option Why) (after : ℕ) (new : NetState L P)
+      (z h : ℕ) (lasts : List (Seat L A S P R)) →
+      Accounts Holds e.plan (books mid y g (open_of e mids)) (books new z h (open_of e lasts)) →
+      OnlyRetires mid new → old.stopped ≡ false → after ≡ now →
+      (new.stopped ≡ false → LastKnows new →
+      CameMore limit before after (length old.given) (length new.given) →
+      StepEnds why limit before (books old x f (open_of e olds))
+      (books new z h (open_of e lasts))) →
+      Steps why Holds e.plan limit before after (books old x f (open_of e olds))
+      (books new z h (open_of e lasts))
+  worked later why after new z h lasts then retires unstopped count ends =
+      let whole = accounts_trans Holds e.plan later _ _ _ accounts_open then in
+      let still = knows_on Holds e.plan _ _ whole ((polls_same mid new retires).last ∙
+      same.last) in
+      let since = more_same limit before now after _ _ _ count
+      (ap (λ n. length n.given) retires.same) more in
+      record {
+        accounts = whole;
+        knows = record { still = still; either = inr (still knows) };
+        ends = ends (unstopped_still old mid new same retires unstopped) (still knows) since;
+        came_more = since;
+      }

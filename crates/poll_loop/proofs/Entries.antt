@@ -97,6 +97,17 @@ ends_hold service counts rest net over.NoMemory e b = tt
 ends_hold service counts rest net (over.TimedOut touched now) e b = (e, omega (arith, b))
 ends_hold service counts rest net over.ShutDown e b = e
 
+-- what a channel that was opened so is judged by at its end
+abbrev pub rest_of : {L A R S : Type 0} → (A → Script) → (L → LinkState) → (L → ℕ) → Fixed A → L →
+    Option S → Option R → Rest R S
+rest_of script state faults fixed link broken fallen = record {
+  link = state link;
+  faults = faults link;
+  owed = owed_by script fixed (state link).arrivals;
+  broken = broken;
+  fallen = fallen;
+}
+
 pub closed_entry : {L P A R S : Type 0} (tells : Telling) (script : A → Script)
     (settings : Settings) (app : A) (counts : Counts R S)
     (state : L → LinkState) (faults : L → ℕ) (net : NetState L P) (fixed : Fixed A) (link : L)
@@ -104,13 +115,8 @@ pub closed_entry : {L P A R S : Type 0} (tells : Telling) (script : A → Script
     fixed ≡ fixed_by settings app peer →
     (IsTrue tells.all → IsPrefix (state link).sent (owed_by script fixed
     (state link).arrivals).output) →
-    EndsBy tells counts fixed.window.timeout (record {
-      link = state link;
-      faults = faults link;
-      owed = owed_by script fixed (state link).arrivals;
-      broken = broken;
-      fallen = fallen;
-    }) end →
+    EndsBy tells counts fixed.window.timeout
+    (rest_of script state faults fixed link broken fallen) end →
     (IsTrue tells.link → IsTimely net (state link)) → BearsMoment (last_moment net.last) end →
     EntryHolds (service_by tells script settings app) (going_on (HasBroken counts.run)) state faults
     net (record { peer = peer; link = link; end = end })
@@ -120,22 +126,9 @@ closed_entry tells script settings app counts state faults net fixed link peer e
           (owed_by script f (state link).arrivals).output) by (sent all);
       timely = timely;
       cause = ends_hold (service_by tells script settings app) counts
-          (record {
-            link = state link;
-            faults = faults link;
-            owed =
-                owed_by script (fixed_by settings app peer) (state link).arrivals;
-            broken = broken;
-            fallen = fallen;
-          })
-          net end
-          (subst (λ f. EndsBy tells counts f.window.timeout (record {
-            link = state link;
-            faults = faults link;
-            owed = owed_by script f (state link).arrivals;
-            broken = broken;
-            fallen = fallen;
-          }) end) by ends)
+          (rest_of script state faults (fixed_by settings app peer) link broken fallen) net end
+          (subst (λ f. EndsBy tells counts f.window.timeout
+          (rest_of script state faults f link broken fallen) end) by ends)
           bears;
     }
 

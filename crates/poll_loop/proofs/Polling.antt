@@ -2,7 +2,7 @@
 use Rattle.std.proofs.Common.{◌≡◌, ◌≤◌, ◌||◌, inl, inr, ℕ, Bool, true, false, List}
 use Rattle.std.proofs.Common.{[], ◌∷◌, ◌++◌, Option, None, Some, refl, ap, sym, subst, ◌∙◌, arith}
 use Rattle.std.proofs.Common.{length, map, take, drop}
-use Rattle.std.specs.Prelude.{unwrap_or}
+use Rattle.std.specs.Prelude.{unwrap_or, Result, Ok, Err, OnOk, is_err}
 use Rattle.std.specs.List.{list_any}
 use Rattle.std.proofs.lemmas.List.{drop-map, map-append, take-append-drop, take-map}
 use Rattle.std.proofs.Math.Seq.{drop-append_seam, take-append_seam}
@@ -303,7 +303,9 @@ no_idle_by {L} {P} e before now wants asked accepting turn nobody old mid new to
       unmet = c.unmet;
     }
 
-pub on_ok : {X E : Type 0} (r : Rattle.std.specs.Prelude.Result X E) (P : Type 0) →
-    Rattle.std.specs.Prelude.is_err r ≡ false → Rattle.std.specs.Prelude.OnOk r P → P
-on_ok (Rattle.std.specs.Prelude.Ok x) P e h = h
-on_ok (Rattle.std.specs.Prelude.Err x) P e h = cc
+-- all wants were gathered
+pub on_gathered : {L A S P R X E : Type 0} (r : Result X E) (seen seats : List (Seat L A S P R))
+    (wants : List Want) → seen ≡ seats → is_err r ≡ false → OnOk r (Gathers seen wants) →
+    Gathers seats wants
+on_gathered (Ok x) seen seats wants same e h = subst (λ ss. Gathers ss wants) same h
+on_gathered (Err x) seen seats wants same e h = cc

@@ -30,7 +30,7 @@ use Rattle.poll_loop.specs.Seat.{BearsMoment}
 use Rattle.poll_loop.specs.Settings.{fixed_by}
 use Rattle.poll_loop.specs.declared.settings.Settings.{Settings}
 use Rattle.poll_loop.proofs.Entries.{app_one, closed_entry, each_append, each_by, spill_one}
-use Rattle.poll_loop.proofs.Entries.{timely_goes_on}
+use Rattle.poll_loop.proofs.Entries.{rest_of, timely_goes_on}
 
 -- ---- counts of spills
 
@@ -223,14 +223,8 @@ module _ {L P A R S : Type 0} (tells : Telling) (script : A → Script) (setting
       link ≡ was → peer ≡ who → fixed ≡ fixed_by settings app who →
       (IsTrue tells.all → IsPrefix (state link).sent (owed_by script fixed
       (state link).arrivals).output) →
-      EndsBy tells counts fixed.window.timeout (record {
-        link = state link;
-        faults = faults link;
-        owed = owed_by script fixed (state link).arrivals;
-        broken = broken;
-        fallen = fallen;
-      })
-      end →
+      EndsBy tells counts fixed.window.timeout
+      (rest_of script state faults fixed link broken fallen) end →
       (IsTrue tells.link → IsTimely old (state was)) → BearsMoment (last_moment old.last) end →
       Settles counts.spill broken spills mid → PutsRun (is_app_fault end) counts.body fallen olds
       news mid spills' →
@@ -239,14 +233,7 @@ module _ {L P A R S : Type 0} (tells : Telling) (script : A → Script) (setting
       (books old spills (length olds) ((who, plan was) ∷ [])) (books new spills' (length news) [])
   closed_accounts is some link_is peer_is by sent ends timely bears settles puts =
       let entry : Retired L = record { peer = peer; link = link; end = end } in
-      let rest : Rest R S = record {
-        link = state link;
-        faults = faults link;
-        owed =
-            owed_by script fixed (state link).arrivals;
-        broken = broken;
-        fallen = fallen;
-      } in
+      let rest : Rest R S = rest_of script state faults fixed link broken fallen in
       one_accounts (EntryHolds (service_by tells script settings app)
       (going_on (HasBroken counts.run)) state faults) plan old new entry
       spills spills' (length olds) (length news) who (plan was) is some

@@ -1,6 +1,7 @@
 -- Internal: what the parts of a turn do to the connections.
 use Rattle.std.specs.Prelude.{◌≡◌, ◌≤◌, ◌<◌, ◌+◌, ◌⊎◌, ℕ, Bool, true, false, IsTrue, List, [], ◌∷◌}
 use Rattle.std.specs.Prelude.{◌++◌, length, map, take, Option, None, Some, IsPermutation}
+use Rattle.std.specs.Prelude.{vec_capacity}
 use Rattle.std.specs.List.{list_any}
 use Rattle.channel.specs.Owed.{owed_by}
 use Rattle.channel.specs.Output.{Script}
@@ -9,20 +10,24 @@ use Rattle.outside.specs.Causes.{Rose}
 use Rattle.outside.specs.Link.{opened}
 use Rattle.outside.specs.Net.{NetState, asked_of, last_moment}
 use Rattle.outside.specs.declared.link.Link.{Ghosts as Links}
+use Rattle.outside.specs.declared.net.Net.{Ghosts as Nets}
 use Rattle.outside.specs.declared.retired.Retired.{Retired}
 use Rattle.outside.specs.declared.spill.Spill.{Ghosts as Spills}
+use Rattle.outside.specs.declared.spill.Spills.{Ghosts as Stores}
 use Rattle.wsgi.specs.declared.app.App.{Ghosts as Apps}
 use Rattle.wsgi.specs.declared.app.AppRun.{Ghosts as Runs}
 use Rattle.outside.specs.declared.types.Peer.{Peer}
 use Rattle.outside.specs.declared.types.Want.{Want}
-use Rattle.poll_loop.specs.Accounts.{IsShutDown, retired_of}
+use Rattle.poll_loop.specs.Accounts.{Accounts, IsShutDown, books, retired_of}
 use Rattle.poll_loop.specs.Entries.{EntryHolds, Grounds, IsTimely, IsWithin, Service}
 use Rattle.poll_loop.specs.Lists.{EachIs}
 use Rattle.poll_loop.specs.NoIdle.{Answers, Nudges}
-use Rattle.poll_loop.specs.Seat.{Eyes, SeatRests, is_open}
-use Rattle.poll_loop.specs.Settings.{fixed_by, is_below}
+use Rattle.poll_loop.specs.Seat.{Eyes, SeatRests, eyes_of, is_open}
+use Rattle.poll_loop.specs.Settings.{AreUsable, fixed_by, is_below}
+use Rattle.poll_loop.specs.declared.accepting.Opening.{Opening}
 use Rattle.poll_loop.specs.declared.connections.Came.{Came}
 use Rattle.poll_loop.specs.declared.connections.Came.TheVariants as came
+use Rattle.poll_loop.specs.declared.connections.Connections.{Connections}
 use Rattle.poll_loop.specs.declared.seat.Mark.{Mark}
 use Rattle.poll_loop.specs.declared.seat.Mark.TheVariants as mark
 use Rattle.poll_loop.specs.declared.seat.Seat.{Seat}
@@ -185,6 +190,50 @@ CameCause came.Failed before now = Rose before now
 CameCause came.One before now = now ≡ before
 CameCause came.Nobody before now = now ≡ before
 CameCause came.NoMemory before now = now ≡ before
+
+-- the room for a run of each that is open
+abbrev pub HasShelf : {L A S P R : Type 0} → Connections L A S P R → Type 0
+HasShelf connections =
+    length connections.fallen.items + length connections.seats.items ≤ vec_capacity
+    connections.fallen
+
+-- how many came and went is how many are open, where that is limited
+abbrev pub IsCounted : {L A S P R : Type 0} → Settings → Connections L A S P R → Type 0
+IsCounted settings connections = Counted settings.serve_limit connections.accepted
+    connections.retired (length connections.seats.items)
+
+-- so many more came as were counted
+abbrev pub CountsMore : {N L A S P R : Type 0} → Settings → Connections L A S P R →
+    Connections L A S P R → NetState N P → NetState N P → Type 0
+CountsMore settings old new net net' = CameMore settings.serve_limit old.accepted new.accepted
+    (length net.given) (length net'.given)
+
+-- what accepting asks of the settings, of the moment and of those that are open
+pub record CanAdmit {L A S P R : Type 0} (tells : Bool) (opening : Opening A) (net : NetState L P)
+    (connections : Connections L A S P R) : Type 0 where
+  pub usable : AreUsable opening.settings.now
+  pub shelf : HasShelf connections
+  pub within : IsTrue tells → IsWithin net opening.moment
+  pub counted : IsCounted opening.settings.now connections
+
+-- the accounts of accepting, by the kinds of links, of spills, of the application and of its runs
+abbrev pub Admits : {L P S A R : Type 0} → Links L P → Spills S → Apps A S R → Runs R S →
+    Opening A → Connections L A S P R → Connections L A S P R → NetState L P → NetState L P → ℕ →
+    ℕ → Type 0
+Admits link spill app run opening old new net net' faults faults' =
+    Accounts (holds_on link spill app run opening.settings.now opening.app.now) link.plan
+    (books net faults (length old.fallen.items) (seated (eyes_of link) old.seats.items))
+    (books net' faults' (length new.fallen.items) (seated (eyes_of link) new.seats.items))
+
+-- what accepting leaves as it was, and room for a run of each that is open
+pub record Stays {N K M L A S P R : Type 0} (net : Nets N L P M) (spills : Stores K S)
+    (old new : Connections L A S P R) (n n' : N) (k k' : K) : Type 0 where
+  pub bind : net.bind_faults n' ≡ net.bind_faults n
+  pub plan : net.plan n' ≡ net.plan n
+  pub moment : net.moment n' ≡ net.moment n
+  pub shelf : HasShelf new
+  pub fallen : new.fallen.items ≡ old.fallen.items
+  pub spills : spills.faults k' ≡ spills.faults k
 
 -- ---- shutting down
 

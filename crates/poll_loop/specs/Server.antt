@@ -4,16 +4,24 @@ use Rattle.std.specs.Prelude.{filter, length, map, nat_le, vec_capacity, Option,
 use Rattle.std.specs.Prelude.{Ok, Err}
 use Rattle.channel.specs.Views.{View, is_late}
 use Rattle.outside.specs.Net.{NetState}
+use Rattle.outside.specs.declared.link.Link.{Ghosts as Links}
+use Rattle.outside.specs.declared.net.Net.{Ghosts as Nets}
+use Rattle.outside.specs.declared.spill.Spill.{Ghosts as Spills}
+use Rattle.outside.specs.declared.spill.Spills.{Ghosts as Stores}
 use Rattle.outside.specs.declared.types.Peer.{Peer}
 use Rattle.outside.specs.declared.types.Turn.{Turn}
 use Rattle.outside.specs.declared.types.Want.{Want}
 use Rattle.outside.specs.declared.retired.Retired.{Retired}
-use Rattle.poll_loop.specs.Accounts.{Accounts, Books, IsMet, LastKnows, ServeCause, Stops, books}
-use Rattle.poll_loop.specs.Connections.{CameMore, Counted, IsOpenedBy, SamePolls, is_kept}
+use Rattle.wsgi.specs.declared.app.App.{Ghosts as Apps}
+use Rattle.wsgi.specs.declared.app.AppRun.{Ghosts as Runs}
+use Rattle.poll_loop.specs.Accounts.{Accounts, Books, IsMet, LastKnows, ServeCause, Served, Stops}
+use Rattle.poll_loop.specs.Accounts.{books}
+use Rattle.poll_loop.specs.Connections.{CameMore, Counted, IsOpenedBy, SamePolls, holds_down}
+use Rattle.poll_loop.specs.Connections.{holds_on, is_kept}
 use Rattle.poll_loop.specs.Lists.{EachIs}
 use Rattle.poll_loop.specs.NoIdle.{Answers, Asks, Case, IsFresh, Serving, checked_after, checked_by}
 use Rattle.poll_loop.specs.NoIdle.{kept, views, who}
-use Rattle.poll_loop.specs.Seat.{Eyes, Labours, SeatRests}
+use Rattle.poll_loop.specs.Seat.{Eyes, Labours, SeatRests, eyes_of}
 use Rattle.poll_loop.specs.Settings.{AreUsable, is_below}
 use Rattle.poll_loop.specs.declared.seat.Seat.{Seat}
 use Rattle.poll_loop.specs.declared.server.Server.{Server}
@@ -97,6 +105,45 @@ pub record Steps {L P : Type 0} (result : Option Why) (Holds : NetState L P → 
   pub knows : KnowsStill old new
   pub ends : StepEnds result limit before old new
   pub came_more : CameMore limit before now (length old.net.given) (length new.net.given)
+
+-- what serving doesn't change of a server
+pub record IsSameServing {L A R : Type 0} (old new : Serving L A R) : Type 0 where
+  pub app : new.app ≡ old.app
+  pub settings : new.settings ≡ old.settings
+
+-- what serving leaves of a net but for what is told: and no count of spills falls
+pub record LeavesRest {N K L P M S : Type 0} (net : Nets N L P M) (spills : Stores K S) (n n' : N)
+    (k k' : K) : Type 0 where
+  pub bind : net.bind_faults n' ≡ net.bind_faults n
+  pub plan : net.plan n' ≡ net.plan n
+  pub spills : spills.faults k ≤ spills.faults k'
+
+-- ---- what is told of a server, by the kinds of links, of spills, of the application and its runs
+
+-- a part of a turn behind which serving goes on
+abbrev pub KeepsAccounts : {L P S A R F : Type 0} → Links L P → Spills S → Apps A S R → Runs R S →
+    Serving L A F → Serving L A F → NetState L P → NetState L P → ℕ → ℕ → Type 0
+KeepsAccounts link spill app run old new net net' faults faults' =
+    Accounts (holds_on link spill app run old.settings old.app) link.plan
+    (booked (eyes_of link) net faults old) (booked (eyes_of link) net' faults' new)
+
+-- a turn, whether or not serving ends with it
+abbrev pub StepAccounts : {L P S A R F : Type 0} → Option Why → Links L P → Spills S →
+    Apps A S R → Runs R S → Serving L A F → Serving L A F → NetState L P → NetState L P → ℕ → ℕ →
+    Type 0
+StepAccounts result link spill app run old new net net' faults faults' =
+    Steps result (holds_on link spill app run old.settings old.app) link.plan
+    old.settings.serve_limit old.accepted new.accepted
+    (booked (eyes_of link) net faults old) (booked (eyes_of link) net' faults' new)
+
+-- the end of serving
+abbrev pub EndsAccounts : {L P S A R F : Type 0} → Result Going ServeFault → Links L P → Spills S →
+    Apps A S R → Runs R S → Serving L A F → Serving L A F → NetState L P → NetState L P → ℕ → ℕ →
+    Type 0
+EndsAccounts result link spill app run old new net net' faults faults' =
+    Served result (holds_on link spill app run old.settings old.app)
+    (holds_down link spill app run old.settings old.app) link.plan
+    (booked (eyes_of link) net faults old) (booked (eyes_of link) net' faults' new)
 
 -- Each connection that the poll was asked for had its part, and who is over has no seat any more.
 pub record WorksOff {N A P L M B R S : Type 0} (e : Eyes L B) (now : ℕ) (wants : List Want)

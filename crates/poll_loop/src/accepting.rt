@@ -1,12 +1,11 @@
 //! From an accept to a seat.
 ghost use Rattle.std.specs.Prelude.{◌≡◌, ◌≤◌, ◌<◌, ◌+◌, ◌&&◌, ◌-◌, ◌^◌, false, IsTrue, IsSome};
-ghost use Rattle.std.specs.Prelude.{IfNone, IfErr, OnOk, OnErr, length, nat_lt, vec_capacity};
+ghost use Rattle.std.specs.Prelude.{IfNone, IfErr, OnOk, OnErr, length, nat_lt};
 ghost use Rattle.outside.specs.Link.{opened};
-ghost use Rattle.poll_loop.specs.Accounts.{Accounts, books};
-ghost use Rattle.poll_loop.specs.Connections.{AcceptsAll, CameAll, CameBy, CameCause, CameMore};
-ghost use Rattle.poll_loop.specs.Connections.{CameUntil, Counted, FaultCause, LeavesNobody};
-ghost use Rattle.poll_loop.specs.Connections.{SamePolls, SeatsOne, Takes, holds_on, seated};
-ghost use Rattle.poll_loop.specs.Entries.{IsWithin};
+ghost use Rattle.poll_loop.specs.Connections.{AcceptsAll, Admits, CameAll, CameBy, CameCause};
+ghost use Rattle.poll_loop.specs.Connections.{CameUntil, CanAdmit, CountsMore, FaultCause, HasShelf};
+ghost use Rattle.poll_loop.specs.Connections.{IsCounted, LeavesNobody, SamePolls, SeatsOne, Stays};
+ghost use Rattle.poll_loop.specs.Connections.{Takes};
 ghost use Rattle.poll_loop.specs.NoIdle.{Answers};
 ghost use Rattle.poll_loop.specs.Seat.{eyes_of};
 ghost use Rattle.poll_loop.specs.Settings.{AreUsable, is_below};
@@ -58,8 +57,7 @@ fn seat_link<'a, L: Link + Drop, A: App<P::Spill>, P: Spills>(
     spills: &mut P,
 ) -> Result<(), (L, Peer)>
     requires usable { AreUsable opening.now.settings.now }
-    requires shelf { length connections.old.fallen.items + length connections.old.seats.items ≤
-        vec_capacity connections.old.fallen }
+    requires shelf { HasShelf connections.old }
     requires fresh { IsTrue L.tells → L.state link ≡ opened opening.now.moment }
     ensures seated { OnOk result (SeatsOne (eyes_of L.Link) opening.now.settings.now
         opening.now.app.now opening.now.moment link peer connections.old.seats.items
@@ -69,8 +67,7 @@ fn seat_link<'a, L: Link + Drop, A: App<P::Spill>, P: Spills>(
     ensures fallen { connections.new.fallen.items ≡ connections.old.fallen.items }
     ensures accepted { connections.new.accepted ≡ connections.old.accepted }
     ensures retired { connections.new.retired ≡ connections.old.retired }
-    ensures shelf { length connections.new.fallen.items + length connections.new.seats.items ≤
-        vec_capacity connections.new.fallen }
+    ensures shelf { HasShelf connections.new }
     ensures spills { P.faults spills.new ≡ P.faults spills.old }
 {
     let more = connections.seats.len() + 1;
@@ -114,45 +111,27 @@ fn accept_one<'a, N: Net, A: App<P::Spill>, P: Spills>(
     net: &mut N,
     spills: &mut P,
 ) -> Came
-    requires usable { AreUsable opening.now.settings.now }
-    requires shelf { length connections.old.fallen.items + length connections.old.seats.items ≤
-        vec_capacity connections.old.fallen }
-    requires within { IsTrue N.tells → IsWithin (N.state net.old) opening.now.moment }
+    requires admits { CanAdmit N.tells opening.now (N.state net.old) connections.old }
     requires more { IsTrue (is_below opening.now.settings.now.serve_limit
         connections.old.accepted) }
     requires bounded { IsSome opening.now.settings.now.serve_limit →
         connections.old.accepted < 2 ^ 64 - 1 }
-    requires counted { Counted opening.now.settings.now.serve_limit connections.old.accepted
-        connections.old.retired
-        (length connections.old.seats.items) }
     ensures takes { Takes (eyes_of N.Link.Link) opening.now.settings.now
         opening.now.app.now opening.now.moment connections.old.seats.items
         connections.new.seats.items }
     ensures few { length connections.new.seats.items ≤ length connections.old.seats.items + 1 }
-    ensures accounts { IsTrue N.tells → Accounts
-        (holds_on N.Link.Link P.Spill.Spill A.App A.Run.AppRun opening.now.settings.now
-        opening.now.app.now) N.Link.plan
-        (books (N.state net.old) (P.faults spills.old) (length connections.old.fallen.items)
-        (seated (eyes_of N.Link.Link) connections.old.seats.items))
-        (books (N.state net.new) (P.faults spills.new) (length connections.new.fallen.items)
-        (seated (eyes_of N.Link.Link) connections.new.seats.items)) }
+    ensures accounts { IsTrue N.tells → Admits N.Link.Link P.Spill.Spill A.App A.Run.AppRun
+        opening.now connections.old connections.new (N.state net.old) (N.state net.new)
+        (P.faults spills.old) (P.faults spills.new) }
     ensures same_polls { IsTrue N.tells → SamePolls (N.state net.old) (N.state net.new) }
     ensures came { IsTrue N.tells → CameBy result (N.state net.old) (N.state net.new) }
     ensures nobody { LeavesNobody result (N.nobody net.new) }
     ensures cause { CameCause result (N.poll_faults net.old) (N.poll_faults net.new) }
-    ensures counted { Counted opening.now.settings.now.serve_limit connections.new.accepted
-        connections.new.retired
-        (length connections.new.seats.items) }
-    ensures came_more { IsTrue N.tells → CameMore opening.now.settings.now.serve_limit
-        connections.old.accepted connections.new.accepted
-        (length (N.state net.old).given) (length (N.state net.new).given) }
-    ensures bind { N.bind_faults net.new ≡ N.bind_faults net.old }
-    ensures plan { N.plan net.new ≡ N.plan net.old }
-    ensures moment { N.moment net.new ≡ N.moment net.old }
-    ensures shelf { length connections.new.fallen.items + length connections.new.seats.items ≤
-        vec_capacity connections.new.fallen }
-    ensures fallen { connections.new.fallen.items ≡ connections.old.fallen.items }
-    ensures spills { P.faults spills.new ≡ P.faults spills.old }
+    ensures counted { IsCounted opening.now.settings.now connections.new }
+    ensures came_more { IsTrue N.tells → CountsMore opening.now.settings.now connections.old
+        connections.new (N.state net.old) (N.state net.new) }
+    ensures stays { Stays N.Net P.Spills connections.old connections.new net.old net.new spills.old
+        spills.new }
 {
     match net.accept(opening.alloc, opening.moment) {
         Ok(Some((link, peer))) => {
@@ -179,46 +158,29 @@ fn accept_all<'a, N: Net, A: App<P::Spill>, P: Spills>(
     net: &mut N,
     spills: &mut P,
 ) -> Came
-    requires usable { AreUsable opening.now.settings.now }
-    requires shelf { length connections.old.fallen.items + length connections.old.seats.items ≤
-        vec_capacity connections.old.fallen }
-    requires within { IsTrue N.tells → IsWithin (N.state net.old) opening.now.moment }
+    requires admits { CanAdmit N.tells opening.now (N.state net.old) connections.old }
     requires more { IsTrue (nat_lt (length connections.old.seats.items)
         opening.now.settings.now.connection_limit
         && is_below opening.now.settings.now.serve_limit connections.old.accepted) }
-    requires counted { Counted opening.now.settings.now.serve_limit connections.old.accepted
-        connections.old.retired
-        (length connections.old.seats.items) }
     ensures takes { Takes (eyes_of N.Link.Link) opening.now.settings.now
         opening.now.app.now opening.now.moment connections.old.seats.items
         connections.new.seats.items }
-    ensures within { length connections.new.seats.items ≤ opening.now.settings.now.connection_limit }
-    ensures accounts { IsTrue N.tells → Accounts
-        (holds_on N.Link.Link P.Spill.Spill A.App A.Run.AppRun opening.now.settings.now
-        opening.now.app.now) N.Link.plan
-        (books (N.state net.old) (P.faults spills.old) (length connections.old.fallen.items)
-        (seated (eyes_of N.Link.Link) connections.old.seats.items))
-        (books (N.state net.new) (P.faults spills.new) (length connections.new.fallen.items)
-        (seated (eyes_of N.Link.Link) connections.new.seats.items)) }
+    ensures within
+        { length connections.new.seats.items ≤ opening.now.settings.now.connection_limit }
+    ensures accounts { IsTrue N.tells → Admits N.Link.Link P.Spill.Spill A.App A.Run.AppRun
+        opening.now connections.old connections.new (N.state net.old) (N.state net.new)
+        (P.faults spills.old) (P.faults spills.new) }
     ensures same_polls { IsTrue N.tells → SamePolls (N.state net.old) (N.state net.new) }
     ensures came { IsTrue N.tells → CameAll result (N.state net.old) (N.state net.new) }
     ensures all { IsTrue N.tells → CameUntil result opening.now.settings.now (N.nobody net.new)
         (length connections.old.seats.items)
         connections.new.accepted (N.state net.old) (N.state net.new) }
     ensures cause { CameCause result (N.poll_faults net.old) (N.poll_faults net.new) }
-    ensures counted { Counted opening.now.settings.now.serve_limit connections.new.accepted
-        connections.new.retired
-        (length connections.new.seats.items) }
-    ensures came_more { IsTrue N.tells → CameMore opening.now.settings.now.serve_limit
-        connections.old.accepted connections.new.accepted
-        (length (N.state net.old).given) (length (N.state net.new).given) }
-    ensures bind { N.bind_faults net.new ≡ N.bind_faults net.old }
-    ensures plan { N.plan net.new ≡ N.plan net.old }
-    ensures moment { N.moment net.new ≡ N.moment net.old }
-    ensures shelf { length connections.new.fallen.items + length connections.new.seats.items ≤
-        vec_capacity connections.new.fallen }
-    ensures fallen { connections.new.fallen.items ≡ connections.old.fallen.items }
-    ensures spills { P.faults spills.new ≡ P.faults spills.old }
+    ensures counted { IsCounted opening.now.settings.now connections.new }
+    ensures came_more { IsTrue N.tells → CountsMore opening.now.settings.now connections.old
+        connections.new (N.state net.old) (N.state net.new) }
+    ensures stays { Stays N.Net P.Spills connections.old connections.new net.old net.new spills.old
+        spills.new }
 {
     for _ in 0..opening.settings.connection_limit {
         if !accepts(
@@ -244,29 +206,19 @@ pub(crate) fn accept_if<'a, N: Net, A: App<P::Spill>, P: Spills>(
     net: &mut N,
     spills: &mut P,
 ) -> Option<ServeFault>
-    requires usable { AreUsable opening.now.settings.now }
-    requires shelf { length connections.old.fallen.items + length connections.old.seats.items ≤
-        vec_capacity connections.old.fallen }
-    requires within { IsTrue N.tells → IsWithin (N.state net.old) opening.now.moment }
+    requires admits { CanAdmit N.tells opening.now (N.state net.old) connections.old }
     requires more { IsTrue come → IsTrue (nat_lt (length connections.old.seats.items)
         opening.now.settings.now.connection_limit
         && is_below opening.now.settings.now.serve_limit connections.old.accepted) }
-    requires counted { Counted opening.now.settings.now.serve_limit connections.old.accepted
-        connections.old.retired
-        (length connections.old.seats.items) }
     ensures takes { Takes (eyes_of N.Link.Link) opening.now.settings.now
         opening.now.app.now opening.now.moment connections.old.seats.items
         connections.new.seats.items }
     ensures within { length connections.old.seats.items ≤ opening.now.settings.now.connection_limit
         →
         length connections.new.seats.items ≤ opening.now.settings.now.connection_limit }
-    ensures accounts { IsTrue N.tells → Accounts
-        (holds_on N.Link.Link P.Spill.Spill A.App A.Run.AppRun opening.now.settings.now
-        opening.now.app.now) N.Link.plan
-        (books (N.state net.old) (P.faults spills.old) (length connections.old.fallen.items)
-        (seated (eyes_of N.Link.Link) connections.old.seats.items))
-        (books (N.state net.new) (P.faults spills.new) (length connections.new.fallen.items)
-        (seated (eyes_of N.Link.Link) connections.new.seats.items)) }
+    ensures accounts { IsTrue N.tells → Admits N.Link.Link P.Spill.Spill A.App A.Run.AppRun
+        opening.now connections.old connections.new (N.state net.old) (N.state net.new)
+        (P.faults spills.old) (P.faults spills.new) }
     ensures same_polls { IsTrue N.tells → SamePolls (N.state net.old) (N.state net.new) }
     ensures answers { IfNone result (IsTrue come → IsTrue N.tells → Answers (N.state net.old)
         (N.state net.new)) }
@@ -276,19 +228,11 @@ pub(crate) fn accept_if<'a, N: Net, A: App<P::Spill>, P: Spills>(
     ensures uncalled { come ≡ false → IsTrue N.tells → (N.state net.new).given ≡
         (N.state net.old).given }
     ensures cause { FaultCause result (N.poll_faults net.old) (N.poll_faults net.new) }
-    ensures counted { Counted opening.now.settings.now.serve_limit connections.new.accepted
-        connections.new.retired
-        (length connections.new.seats.items) }
-    ensures came_more { IsTrue N.tells → CameMore opening.now.settings.now.serve_limit
-        connections.old.accepted connections.new.accepted
-        (length (N.state net.old).given) (length (N.state net.new).given) }
-    ensures bind { N.bind_faults net.new ≡ N.bind_faults net.old }
-    ensures plan { N.plan net.new ≡ N.plan net.old }
-    ensures moment { N.moment net.new ≡ N.moment net.old }
-    ensures shelf { length connections.new.fallen.items + length connections.new.seats.items ≤
-        vec_capacity connections.new.fallen }
-    ensures fallen { connections.new.fallen.items ≡ connections.old.fallen.items }
-    ensures spills { P.faults spills.new ≡ P.faults spills.old }
+    ensures counted { IsCounted opening.now.settings.now connections.new }
+    ensures came_more { IsTrue N.tells → CountsMore opening.now.settings.now connections.old
+        connections.new (N.state net.old) (N.state net.new) }
+    ensures stays { Stays N.Net P.Spills connections.old connections.new net.old net.new spills.old
+        spills.new }
 {
     if !come {
         return None;

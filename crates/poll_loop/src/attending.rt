@@ -82,9 +82,9 @@ fn labour<'a, L: Link + Drop, A: App<S>, S: Spill + Send + Drop, P: Spills<Spill
     rooms: &mut Rooms,
     spills: &mut P,
 )
-    requires recv { length rooms.old.recv.items ≡ round.window.recv_bytes }
-    requires asks { Paired (SeatAsks (eyes_of L.Link) round.window) wants.now seats.old }
     requires rest { EachIs (SeatRests (eyes_of L.Link) round.window) seats.old }
+    requires asks { Paired (SeatAsks (eyes_of L.Link) round.window) wants.now seats.old }
+    requires recv { length rooms.old.recv.items ≡ round.window.recv_bytes }
     ensures labours { Labours round.due (eyes_of L.Link) round.now round.window wants.now seats.old
         seats.new }
     ensures out { EachIs (SeatOut (eyes_of L.Link) round.now round.window) seats.new }

@@ -1,11 +1,12 @@
 //! Turns, one after the other.
 ghost use Rattle.std.specs.Prelude.{◌≡◌, ◌≢◌, ◌≤◌, ◌⊎◌, [], IsTrue, Ok, false, length};
 ghost use Rattle.outside.specs.Causes.{raised};
-ghost use Rattle.poll_loop.specs.Accounts.{Accounts, LastKnows, ServeCause, ServeEnds, Served};
-ghost use Rattle.poll_loop.specs.Connections.{CameMore, holds_down, holds_on};
+ghost use Rattle.poll_loop.specs.Accounts.{LastKnows, ServeCause, ServeEnds};
+ghost use Rattle.poll_loop.specs.Connections.{CameMore};
 ghost use Rattle.poll_loop.specs.NoIdle.{Hosts, NoIdle};
 ghost use Rattle.poll_loop.specs.Seat.{eyes_of};
-ghost use Rattle.poll_loop.specs.Server.{Stands, booked, serving};
+ghost use Rattle.poll_loop.specs.Server.{EndsAccounts, IsSameServing, KeepsAccounts, LeavesRest};
+ghost use Rattle.poll_loop.specs.Server.{Stands, serving};
 ghost use Rattle.poll_loop.specs.declared.settings.Going.TheVariants as going;
 
 use crate::retiring::shut_down;
@@ -27,14 +28,9 @@ impl<'a, N: Net, A: App<P::Spill>, P: Spills> Server<'a, N, A, P> {
         ensures no_idle { result ≡ Ok going.On → IsTrue N.tells → IsTrue N.Link.tells →
             NoIdle (eyes_of N.Link.Link) (serving self.old) (serving self.new) (N.nobody net.new)
             (N.state net.old) (N.state net.new) }
-        ensures goes_on { result ≡ Ok going.On → IsTrue N.tells → Accounts
-            (holds_on N.Link.Link P.Spill.Spill A.App A.Run.AppRun (serving self.old).settings
-            (serving self.old).app)
-            N.Link.plan
-            (booked (eyes_of N.Link.Link) (N.state net.old) (P.faults spills.old)
-            (serving self.old))
-            (booked (eyes_of N.Link.Link) (N.state net.new) (P.faults spills.new)
-            (serving self.new)) }
+        ensures goes_on { result ≡ Ok going.On → IsTrue N.tells → KeepsAccounts
+            N.Link.Link P.Spill.Spill A.App A.Run.AppRun (serving self.old) (serving self.new)
+            (N.state net.old) (N.state net.new) (P.faults spills.old) (P.faults spills.new) }
         ensures knows { result ≡ Ok going.On → IsTrue N.tells → LastKnows (N.state net.new) }
         ensures still { IsTrue N.tells → LastKnows (N.state net.old) → LastKnows (N.state net.new) }
         ensures came_more { IsTrue N.tells → CameMore (serving self.old).settings.serve_limit
@@ -42,30 +38,19 @@ impl<'a, N: Net, A: App<P::Spill>, P: Spills> Server<'a, N, A, P> {
             (N.state net.old).given) (length (N.state net.new).given) }
         ensures unstopped { result ≡ Ok going.On → IsTrue N.tells →
             (N.state net.new).stopped ≡ false }
-        ensures served { result ≢ Ok going.On → IsTrue N.tells → Served result
-            (holds_on N.Link.Link P.Spill.Spill A.App A.Run.AppRun (serving self.old).settings
-            (serving self.old).app)
-            (holds_down N.Link.Link P.Spill.Spill A.App A.Run.AppRun (serving self.old).settings
-            (serving self.old).app)
-            N.Link.plan
-            (booked (eyes_of N.Link.Link) (N.state net.old) (P.faults spills.old)
-            (serving self.old))
-            (booked (eyes_of N.Link.Link) (N.state net.new) (P.faults spills.new)
-            (serving self.new)) }
+        ensures served { result ≢ Ok going.On → IsTrue N.tells → EndsAccounts result
+            N.Link.Link P.Spill.Spill A.App A.Run.AppRun (serving self.old) (serving self.new)
+            (N.state net.old) (N.state net.new) (P.faults spills.old) (P.faults spills.new) }
         ensures shut { result ≢ Ok going.On → (serving self.new).open' ≡ [] }
         ensures polls { IsTrue N.tells → ((N.state net.new).polls ≡ (N.state net.old).polls) ⊎
             ((N.state net.new).polls ≡ raised (N.state net.old).polls) }
         ensures hosts { result ≡ Ok going.On → IsTrue N.tells → Hosts (eyes_of N.Link.Link)
             (N.state net.new) (serving self.new).open' }
         ensures ends { IsTrue N.tells → ServeEnds result (serving self.old).settings.serve_limit
-            (serving self.old).accepted
-            (N.state net.old) (N.state net.new) }
+            (serving self.old).accepted (N.state net.old) (N.state net.new) }
         ensures cause { ServeCause result (N.poll_faults net.old) (N.poll_faults net.new) }
-        ensures settings { (serving self.new).settings ≡ (serving self.old).settings }
-        ensures app { (serving self.new).app ≡ (serving self.old).app }
-        ensures bind { N.bind_faults net.new ≡ N.bind_faults net.old }
-        ensures plan { N.plan net.new ≡ N.plan net.old }
-        ensures spills { P.faults spills.old ≤ P.faults spills.new }
+        ensures same { IsSameServing (serving self.old) (serving self.new) }
+        ensures rest { LeavesRest N.Net P.Spills net.old net.new spills.old spills.new }
         ensures stands { Stands (eyes_of N.Link.Link) A.Run.faults self.new }
     {
         match self.step(net, spills) {
@@ -88,37 +73,24 @@ impl<'a, N: Net, A: App<P::Spill>, P: Spills> Server<'a, N, A, P> {
         requires hosts { IsTrue N.tells → Hosts (eyes_of N.Link.Link) (N.state net.old)
             (serving self.old).open' }
         ensures ended { result ≢ Ok going.On }
-        ensures served { IsTrue N.tells → Served result
-            (holds_on N.Link.Link P.Spill.Spill A.App A.Run.AppRun (serving self.old).settings
-            (serving self.old).app)
-            (holds_down N.Link.Link P.Spill.Spill A.App A.Run.AppRun (serving self.old).settings
-            (serving self.old).app)
-            N.Link.plan
-            (booked (eyes_of N.Link.Link) (N.state net.old) (P.faults spills.old)
-            (serving self.old))
-            (booked (eyes_of N.Link.Link) (N.state net.new) (P.faults spills.new)
-            (serving self.new)) }
+        ensures served { IsTrue N.tells → EndsAccounts result
+            N.Link.Link P.Spill.Spill A.App A.Run.AppRun (serving self.old) (serving self.new)
+            (N.state net.old) (N.state net.new) (P.faults spills.old) (P.faults spills.new) }
         ensures came_more { IsTrue N.tells → CameMore (serving self.old).settings.serve_limit
             (serving self.old).accepted (serving self.new).accepted (length
             (N.state net.old).given) (length (N.state net.new).given) }
         ensures shut { (serving self.new).open' ≡ [] }
         ensures ends { IsTrue N.tells → ServeEnds result (serving self.old).settings.serve_limit
-            (serving self.old).accepted
-            (N.state net.old) (N.state net.new) }
+            (serving self.old).accepted (N.state net.old) (N.state net.new) }
         ensures cause { ServeCause result (N.poll_faults net.old) (N.poll_faults net.new) }
-        ensures settings { (serving self.new).settings ≡ (serving self.old).settings }
-        ensures app { (serving self.new).app ≡ (serving self.old).app }
-        ensures bind { N.bind_faults net.new ≡ N.bind_faults net.old }
-        ensures plan { N.plan net.new ≡ N.plan net.old }
-        ensures spills { P.faults spills.old ≤ P.faults spills.new }
+        ensures same { IsSameServing (serving self.old) (serving self.new) }
+        ensures rest { LeavesRest N.Net P.Spills net.old net.new spills.old spills.new }
         ensures stands { Stands (eyes_of N.Link.Link) A.Run.faults self.new }
     {
         for _ in rt.forever() {
             match self.turn(net, spills) {
                 Ok(Going::On) => {}
-                Ok(Going::Stopped) => return Ok(Going::Stopped),
-                Ok(Going::LimitMet) => return Ok(Going::LimitMet),
-                Err(fault) => return Err(fault),
+                ended => return ended,
             }
         }
         unreachable!()

@@ -2,14 +2,14 @@
 ghost use Rattle.std.specs.Prelude.{◌≡◌, ◌≤◌, ◌+◌, ◌⊎◌, false, IsTrue, OnOk, None, length, nat_le};
 ghost use Rattle.std.specs.Prelude.{take};
 ghost use Rattle.outside.specs.Causes.{raised};
-ghost use Rattle.poll_loop.specs.Accounts.{Accounts, LastKnows};
+ghost use Rattle.poll_loop.specs.Accounts.{LastKnows};
 ghost use Rattle.poll_loop.specs.Connections.{Gathers, IsAsked, IsNow, OnlyRetires, SamePolls};
-ghost use Rattle.poll_loop.specs.Connections.{holds_on, works};
+ghost use Rattle.poll_loop.specs.Connections.{works};
 ghost use Rattle.poll_loop.specs.Lists.{Paired};
 ghost use Rattle.poll_loop.specs.NoIdle.{Hosts, NoIdle, checked_by, is_accepting};
 ghost use Rattle.poll_loop.specs.Seat.{SeatAsks, eyes_of};
-ghost use Rattle.poll_loop.specs.Server.{Carries, IsSameServer, Stands, StepCause, Steps, WorksOff};
-ghost use Rattle.poll_loop.specs.Server.{answer_of, booked, serving};
+ghost use Rattle.poll_loop.specs.Server.{Carries, IsSameServer, KeepsAccounts, LeavesRest, Stands};
+ghost use Rattle.poll_loop.specs.Server.{StepAccounts, StepCause, WorksOff, answer_of, serving};
 
 use crate::accepting::{Opening, accept_if, accepts, below};
 use crate::attending::{Round, labour_all};
@@ -112,14 +112,9 @@ impl<'a, N: Net, A: App<P::Spill>, P: Spills> Server<'a, N, A, P> {
         requires now { IsTrue N.tells → IsNow (N.state net.old) now }
         ensures works_off { WorksOff (eyes_of N.Link.Link) now
             (take asked self.old.wants.items) self.old self.new }
-        ensures accounts { IsTrue N.tells → Accounts
-            (holds_on N.Link.Link P.Spill.Spill A.App A.Run.AppRun self.old.settings.now
-            self.old.app.now)
-            N.Link.plan
-            (booked (eyes_of N.Link.Link) (N.state net.old) (P.faults spills.old)
-            (serving self.old))
-            (booked (eyes_of N.Link.Link) (N.state net.new) (P.faults spills.new)
-            (serving self.new)) }
+        ensures accounts { IsTrue N.tells → KeepsAccounts
+            N.Link.Link P.Spill.Spill A.App A.Run.AppRun (serving self.old) (serving self.new)
+            (N.state net.old) (N.state net.new) (P.faults spills.old) (P.faults spills.new) }
         ensures net { IsTrue N.tells → OnlyRetires (N.state net.old) (N.state net.new) }
         ensures accepted { self.new.connections.accepted ≡ self.old.connections.accepted }
         ensures polls { N.poll_faults net.new ≡ N.poll_faults net.old }
@@ -128,9 +123,7 @@ impl<'a, N: Net, A: App<P::Spill>, P: Spills> Server<'a, N, A, P> {
         ensures stands { Stands (eyes_of N.Link.Link) A.Run.faults self.new }
         ensures hosts { IsTrue N.tells → Hosts (eyes_of N.Link.Link) (N.state net.new)
             (serving self.new).open' }
-        ensures bind { N.bind_faults net.new ≡ N.bind_faults net.old }
-        ensures plan { N.plan net.new ≡ N.plan net.old }
-        ensures spills { P.faults spills.old ≤ P.faults spills.new }
+        ensures rest { LeavesRest N.Net P.Spills net.old net.new spills.old spills.new }
     {
         let from = counted_from(now, self.checked);
         let due = is_check_due(now, from, self.settings.cleanup_interval);
@@ -171,24 +164,16 @@ impl<'a, N: Net, A: App<P::Spill>, P: Spills> Server<'a, N, A, P> {
             Carries (eyes_of N.Link.Link) (take asked self.old.wants.items) turn
             (serving self.old) (serving self.new) (N.nobody net.new) (N.state net.old)
             (N.state net.new) }
-        ensures steps { IsTrue N.tells → Steps result
-            (holds_on N.Link.Link P.Spill.Spill A.App A.Run.AppRun self.old.settings.now
-            self.old.app.now)
-            N.Link.plan self.old.settings.now.serve_limit self.old.connections.accepted
-            self.new.connections.accepted
-            (booked (eyes_of N.Link.Link) (N.state net.old) (P.faults spills.old)
-            (serving self.old))
-            (booked (eyes_of N.Link.Link) (N.state net.new) (P.faults spills.new)
-            (serving self.new)) }
+        ensures steps { IsTrue N.tells → StepAccounts result
+            N.Link.Link P.Spill.Spill A.App A.Run.AppRun (serving self.old) (serving self.new)
+            (N.state net.old) (N.state net.new) (P.faults spills.old) (P.faults spills.new) }
         ensures same_polls { IsTrue N.tells → SamePolls (N.state net.old) (N.state net.new) }
         ensures cause { StepCause result (N.poll_faults net.old) (N.poll_faults net.new) }
         ensures same { IsSameServer self.old self.new }
         ensures stands { Stands (eyes_of N.Link.Link) A.Run.faults self.new }
         ensures hosts { IsTrue N.tells → Hosts (eyes_of N.Link.Link) (N.state net.new)
             (serving self.new).open' }
-        ensures bind { N.bind_faults net.new ≡ N.bind_faults net.old }
-        ensures plan { N.plan net.new ≡ N.plan net.old }
-        ensures spills { P.faults spills.old ≤ P.faults spills.new }
+        ensures rest { LeavesRest N.Net P.Spills net.old net.new spills.old spills.new }
     {
         let opening = Opening {
             alloc: self.alloc,
@@ -216,15 +201,9 @@ impl<'a, N: Net, A: App<P::Spill>, P: Spills> Server<'a, N, A, P> {
         ensures no_idle { result ≡ None → IsTrue N.tells → IsTrue N.Link.tells →
             NoIdle (eyes_of N.Link.Link) (serving self.old) (serving self.new) (N.nobody net.new)
             (N.state net.old) (N.state net.new) }
-        ensures steps { IsTrue N.tells → Steps result
-            (holds_on N.Link.Link P.Spill.Spill A.App A.Run.AppRun self.old.settings.now
-            self.old.app.now)
-            N.Link.plan self.old.settings.now.serve_limit self.old.connections.accepted
-            self.new.connections.accepted
-            (booked (eyes_of N.Link.Link) (N.state net.old) (P.faults spills.old)
-            (serving self.old))
-            (booked (eyes_of N.Link.Link) (N.state net.new) (P.faults spills.new)
-            (serving self.new)) }
+        ensures steps { IsTrue N.tells → StepAccounts result
+            N.Link.Link P.Spill.Spill A.App A.Run.AppRun (serving self.old) (serving self.new)
+            (N.state net.old) (N.state net.new) (P.faults spills.old) (P.faults spills.new) }
         ensures polls { IsTrue N.tells → ((N.state net.new).polls ≡ (N.state net.old).polls) ⊎
             ((N.state net.new).polls ≡ raised (N.state net.old).polls) }
         ensures cause { StepCause result (N.poll_faults net.old) (N.poll_faults net.new) }
@@ -232,9 +211,7 @@ impl<'a, N: Net, A: App<P::Spill>, P: Spills> Server<'a, N, A, P> {
         ensures stands { Stands (eyes_of N.Link.Link) A.Run.faults self.new }
         ensures hosts { IsTrue N.tells → Hosts (eyes_of N.Link.Link) (N.state net.new)
             (serving self.new).open' }
-        ensures bind { N.bind_faults net.new ≡ N.bind_faults net.old }
-        ensures plan { N.plan net.new ≡ N.plan net.old }
-        ensures spills { P.faults spills.old ≤ P.faults spills.new }
+        ensures rest { LeavesRest N.Net P.Spills net.old net.new spills.old spills.new }
     {
         let asked = self.connections.seats.len();
         let accepting = accepts(self.settings, asked, self.connections.accepted);

@@ -1,4 +1,4 @@
-use Rattle.std.proofs.Common.{Err, Ok, ap, arith, refl, ◌∙◌}
+use Rattle.std.proofs.Common.{Ok, ap, arith, refl, ◌∙◌}
 use Rattle.channel.specs.Views.{telling}
 use Rattle.poll_loop.specs.Connections.{HasBroken, going_on, service_by}
 use Rattle.poll_loop.specs.Entries.{EntryHolds}
@@ -43,167 +43,37 @@ loop-preserved g c =
     record {
       goes = λ tells. serve_again
           (telling g.N.Link.Link.tells g.P.Spill.Spill.tells g.A.App.tells) g.A.App.script
-          g.A.Run.AppRun.faults
-          (eyes_of g.N.Link.Link)
-          c.args.self.now.settings.now c.loop.self.settings.now c.args.self.now.app.now
-          c.loop.self.app.now
-          c.args.self.now.connections.accepted c.loop.self.connections.accepted
-          (booked (eyes_of g.N.Link.Link)
-          (g.N.Net.state c.args.net.now) (g.P.Spills.faults c.args.spills.now)
-          (serving c.args.self.now))
-          (booked (eyes_of g.N.Link.Link)
-          (g.N.Net.state c.loop.net) (g.P.Spills.faults c.loop.spills) (serving c.loop.self))
-          (booked (eyes_of g.N.Link.Link)
-          (g.N.Net.state c.turn.new.net) (g.P.Spills.faults c.turn.new.spills)
-          (serving c.turn.new.self))
+          g.A.Run.AppRun.faults (eyes_of g.N.Link.Link) _ _ _ _ _ _ _ _ _
           c.turn.new.self.connections.accepted held.settings held.app (held.goes tells)
           (made.goes_on on tells) (made.came_more tells) (made.unstopped on tells)
           (made.knows on tells);
       hosts = made.hosts on;
       stands = made.stands;
-      settings = made.settings ∙ held.settings;
-      app = made.app ∙ held.app;
+      settings = made.same.settings ∙ held.settings;
+      app = made.same.app ∙ held.app;
       polls = serve_cause _ (Ok going.On) _ _ _ on held.polls made.cause;
-      bind = made.bind ∙ held.bind;
-      plan = made.plan ∙ held.plan;
-      spills = let a = held.spills in let b = made.spills in omega (arith, a, b);
+      bind = made.rest.bind ∙ held.bind;
+      plan = made.rest.plan ∙ held.plan;
+      spills = let a = held.spills in let b = made.rest.spills in omega (arith, a, b);
     }
 
-pub returns-in-Ok-Stopped-clause-served : goal.returns-in-Ok-Stopped-clause-served
-returns-in-Ok-Stopped-clause-served g c tells =
+pub returns-in_default-clause-served : goal.returns-in_default-clause-served
+returns-in_default-clause-served g c tells =
     let held = c.loop.invariant in
     let made = c.turn.ensures in
-    let is = c.in-Ok-Stopped.is ∙ ap Ok c.in-Ok-Stopped.field-0-is in
-    serve_ended
-    (telling g.N.Link.Link.tells g.P.Spill.Spill.tells g.A.App.tells) g.A.App.script
-    g.A.Run.AppRun.faults
-    (eyes_of g.N.Link.Link)
-    c.args.self.now.settings.now c.loop.self.settings.now c.args.self.now.app.now
-    c.loop.self.app.now
-    c.args.self.now.connections.accepted c.loop.self.connections.accepted
-    (booked (eyes_of g.N.Link.Link)
-    (g.N.Net.state c.args.net.now) (g.P.Spills.faults c.args.spills.now) (serving c.args.self.now))
-    (booked (eyes_of g.N.Link.Link)
-    (g.N.Net.state c.loop.net) (g.P.Spills.faults c.loop.spills) (serving c.loop.self))
-    (booked (eyes_of g.N.Link.Link)
-    (g.N.Net.state c.turn.new.net) (g.P.Spills.faults c.turn.new.spills) (serving c.turn.new.self))
-    c.turn.result (Ok going.Stopped) is held.settings held.app (held.goes tells)
-    (made.served (λ on. absurd (cc (on, is))) tells) (made.still tells)
+    serve_ended (telling g.N.Link.Link.tells g.P.Spill.Spill.tells g.A.App.tells) g.A.App.script
+    g.A.Run.AppRun.faults (eyes_of g.N.Link.Link) _ _ _ _ _ _ _ _ _
+    c.turn.result _ refl held.settings held.app (held.goes tells)
+    (made.served (λ on. c.in_default.not-Ok-On on) tells) (made.still tells)
 
-pub returns-in-Ok-Stopped-clause-ends : goal.returns-in-Ok-Stopped-clause-ends
-returns-in-Ok-Stopped-clause-ends g c tells =
+pub returns-in_default-clause-ends : goal.returns-in_default-clause-ends
+returns-in_default-clause-ends g c tells =
     let held = c.loop.invariant in
-    let is = c.in-Ok-Stopped.is ∙ ap Ok c.in-Ok-Stopped.field-0-is in
-    serve_ends
-    (telling g.N.Link.Link.tells g.P.Spill.Spill.tells g.A.App.tells) g.A.App.script
-    g.A.Run.AppRun.faults
-    (eyes_of g.N.Link.Link)
-    c.args.self.now.settings.now c.loop.self.settings.now c.args.self.now.app.now
-    c.loop.self.app.now
-    c.args.self.now.connections.accepted c.loop.self.connections.accepted
-    (booked (eyes_of g.N.Link.Link)
-    (g.N.Net.state c.args.net.now) (g.P.Spills.faults c.args.spills.now) (serving c.args.self.now))
-    (booked (eyes_of g.N.Link.Link)
-    (g.N.Net.state c.loop.net) (g.P.Spills.faults c.loop.spills) (serving c.loop.self))
-    (booked (eyes_of g.N.Link.Link)
-    (g.N.Net.state c.turn.new.net) (g.P.Spills.faults c.turn.new.spills) (serving c.turn.new.self))
-    c.turn.result (Ok going.Stopped) is held.settings (held.goes tells) (c.turn.ensures.ends tells)
-
-pub returns-in-Ok-Stopped-clause-cause : goal.returns-in-Ok-Stopped-clause-cause
-returns-in-Ok-Stopped-clause-cause g c =
-    let is = c.in-Ok-Stopped.is ∙ ap Ok c.in-Ok-Stopped.field-0-is in
-    serve_cause c.turn.result (Ok going.Stopped) _ _ _ is c.loop.invariant.polls
-    c.turn.ensures.cause
-
-pub returns-in-Ok-LimitMet-clause-served : goal.returns-in-Ok-LimitMet-clause-served
-returns-in-Ok-LimitMet-clause-served g c tells =
-    let held = c.loop.invariant in
-    let made = c.turn.ensures in
-    let is = c.in-Ok-LimitMet.is ∙ ap Ok c.in-Ok-LimitMet.field-0-is in
-    serve_ended
-    (telling g.N.Link.Link.tells g.P.Spill.Spill.tells g.A.App.tells) g.A.App.script
-    g.A.Run.AppRun.faults
-    (eyes_of g.N.Link.Link)
-    c.args.self.now.settings.now c.loop.self.settings.now c.args.self.now.app.now
-    c.loop.self.app.now
-    c.args.self.now.connections.accepted c.loop.self.connections.accepted
-    (booked (eyes_of g.N.Link.Link)
-    (g.N.Net.state c.args.net.now) (g.P.Spills.faults c.args.spills.now) (serving c.args.self.now))
-    (booked (eyes_of g.N.Link.Link)
-    (g.N.Net.state c.loop.net) (g.P.Spills.faults c.loop.spills) (serving c.loop.self))
-    (booked (eyes_of g.N.Link.Link)
-    (g.N.Net.state c.turn.new.net) (g.P.Spills.faults c.turn.new.spills) (serving c.turn.new.self))
-    c.turn.result (Ok going.LimitMet) is held.settings held.app (held.goes tells)
-    (made.served (λ on. absurd (cc (on, is))) tells) (made.still tells)
-
-pub returns-in-Ok-LimitMet-clause-ends : goal.returns-in-Ok-LimitMet-clause-ends
-returns-in-Ok-LimitMet-clause-ends g c tells =
-    let held = c.loop.invariant in
-    let is = c.in-Ok-LimitMet.is ∙ ap Ok c.in-Ok-LimitMet.field-0-is in
-    serve_ends
-    (telling g.N.Link.Link.tells g.P.Spill.Spill.tells g.A.App.tells) g.A.App.script
-    g.A.Run.AppRun.faults
-    (eyes_of g.N.Link.Link)
-    c.args.self.now.settings.now c.loop.self.settings.now c.args.self.now.app.now
-    c.loop.self.app.now
-    c.args.self.now.connections.accepted c.loop.self.connections.accepted
-    (booked (eyes_of g.N.Link.Link)
-    (g.N.Net.state c.args.net.now) (g.P.Spills.faults c.args.spills.now) (serving c.args.self.now))
-    (booked (eyes_of g.N.Link.Link)
-    (g.N.Net.state c.loop.net) (g.P.Spills.faults c.loop.spills) (serving c.loop.self))
-    (booked (eyes_of g.N.Link.Link)
-    (g.N.Net.state c.turn.new.net) (g.P.Spills.faults c.turn.new.spills) (serving c.turn.new.self))
-    c.turn.result (Ok going.LimitMet) is held.settings (held.goes tells) (c.turn.ensures.ends tells)
-
-pub returns-in-Ok-LimitMet-clause-cause : goal.returns-in-Ok-LimitMet-clause-cause
-returns-in-Ok-LimitMet-clause-cause g c =
-    let is = c.in-Ok-LimitMet.is ∙ ap Ok c.in-Ok-LimitMet.field-0-is in
-    serve_cause c.turn.result (Ok going.LimitMet) _ _ _ is c.loop.invariant.polls
-    c.turn.ensures.cause
-
-pub returns-in-Err-clause-served : goal.returns-in-Err-clause-served
-returns-in-Err-clause-served g c tells =
-    let held = c.loop.invariant in
-    let made = c.turn.ensures in
-    let is = c.in-Err.is in
-    serve_ended
-    (telling g.N.Link.Link.tells g.P.Spill.Spill.tells g.A.App.tells) g.A.App.script
-    g.A.Run.AppRun.faults
-    (eyes_of g.N.Link.Link)
-    c.args.self.now.settings.now c.loop.self.settings.now c.args.self.now.app.now
-    c.loop.self.app.now
-    c.args.self.now.connections.accepted c.loop.self.connections.accepted
-    (booked (eyes_of g.N.Link.Link)
-    (g.N.Net.state c.args.net.now) (g.P.Spills.faults c.args.spills.now) (serving c.args.self.now))
-    (booked (eyes_of g.N.Link.Link)
-    (g.N.Net.state c.loop.net) (g.P.Spills.faults c.loop.spills) (serving c.loop.self))
-    (booked (eyes_of g.N.Link.Link)
-    (g.N.Net.state c.turn.new.net) (g.P.Spills.faults c.turn.new.spills) (serving c.turn.new.self))
-    c.turn.result (Err c.in-Err.fault) is held.settings held.app (held.goes tells)
-    (made.served (λ on. absurd (cc (on, is))) tells) (made.still tells)
-
-pub returns-in-Err-clause-ends : goal.returns-in-Err-clause-ends
-returns-in-Err-clause-ends g c tells =
-    let held = c.loop.invariant in
-    let is = c.in-Err.is in
-    serve_ends
-    (telling g.N.Link.Link.tells g.P.Spill.Spill.tells g.A.App.tells) g.A.App.script
-    g.A.Run.AppRun.faults
-    (eyes_of g.N.Link.Link)
-    c.args.self.now.settings.now c.loop.self.settings.now c.args.self.now.app.now
-    c.loop.self.app.now
-    c.args.self.now.connections.accepted c.loop.self.connections.accepted
-    (booked (eyes_of g.N.Link.Link)
-    (g.N.Net.state c.args.net.now) (g.P.Spills.faults c.args.spills.now) (serving c.args.self.now))
-    (booked (eyes_of g.N.Link.Link)
-    (g.N.Net.state c.loop.net) (g.P.Spills.faults c.loop.spills) (serving c.loop.self))
-    (booked (eyes_of g.N.Link.Link)
-    (g.N.Net.state c.turn.new.net) (g.P.Spills.faults c.turn.new.spills) (serving c.turn.new.self))
-    c.turn.result (Err c.in-Err.fault) is held.settings (held.goes tells)
+    serve_ends (telling g.N.Link.Link.tells g.P.Spill.Spill.tells g.A.App.tells) g.A.App.script
+    g.A.Run.AppRun.faults (eyes_of g.N.Link.Link) _ _ c.args.self.now.app.now c.loop.self.app.now
+    _ _ _ _ _ c.turn.result _ refl held.settings (held.goes tells)
     (c.turn.ensures.ends tells)
 
-pub returns-in-Err-clause-cause : goal.returns-in-Err-clause-cause
-returns-in-Err-clause-cause g c =
-    let is = c.in-Err.is in
-    serve_cause c.turn.result (Err c.in-Err.fault) _ _ _ is c.loop.invariant.polls
-    c.turn.ensures.cause
+pub returns-in_default-clause-cause : goal.returns-in_default-clause-cause
+returns-in_default-clause-cause g c =
+    serve_cause c.turn.result _ _ _ _ refl c.loop.invariant.polls c.turn.ensures.cause

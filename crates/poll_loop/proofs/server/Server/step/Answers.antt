@@ -1,10 +1,9 @@
-use Rattle.std.proofs.Common.{◌≡◌, length, map, ap, sym, subst, ◌∙◌, arith, vec_len, nat_lt, ◌&&◌}
+use Rattle.std.proofs.Common.{◌≡◌, length, map, ap, sym, ◌∙◌, arith, vec_len, nat_lt, ◌&&◌}
 use Rattle.poll_loop.specs.Seat.{Eyes, eyes_of}
-use Rattle.poll_loop.specs.Connections.{Gathers}
 use Rattle.poll_loop.specs.Server.{serving}
 use Rattle.poll_loop.specs.Settings.{is_below}
 use Rattle.poll_loop.proofs.Polling.{due_by_marks, hosts_polled, is_asked, knows_polled, no_idle_by}
-use Rattle.poll_loop.proofs.Polling.{now_polled, nudged, on_ok, steps_failed, steps_none}
+use Rattle.poll_loop.proofs.Polling.{now_polled, nudged, on_gathered, steps_failed, steps_none}
 use Rattle.poll_loop.proofs.Polling.{steps_stopped, time_polled}
 use Rattle.poll_loop.proofs.Working.{map_length}
 use Rattle.poll_loop.proofs.server.Server.step.Goals as goal
@@ -52,10 +51,8 @@ carry-requires-clause-asks g c _ _ =
     let ok = c.args.self.now.connections.seats.ok in
     let n : vec_len c.args.self.now.connections.seats ≡ length seats = grind (arith, ok) in
     let count : c.len-asked.result ≡ length seats = c.len-asked.ensures ∙ n in
-    let gathers : Gathers seats c.gather.new.wants.items =
-    subst (λ ss. Gathers ss c.gather.new.wants.items) c.as_slice.ensures.value
-    (on_ok c.gather.result (Gathers c.as_slice.result.now c.gather.new.wants.items)
-    (sym c.if-is_err.ensures.value) c.gather.ensures) in
+    let gathers = on_gathered c.gather.result _ seats c.gather.new.wants.items
+    c.as_slice.ensures.value (sym c.if-is_err.ensures.value) c.gather.ensures in
     is_asked seats c.len-asked.result c.gather.new.wants.items c.poll.new.wants.items count gathers
     c.poll.ensures.wants
 
@@ -67,10 +64,8 @@ returns-else-turn-clause-no_idle g c on tells link_tells =
     let ok = c.args.self.now.connections.seats.ok in
     let n : vec_len c.args.self.now.connections.seats ≡ length seats = grind (arith, ok) in
     let count : c.len-asked.result ≡ length seats = c.len-asked.ensures ∙ n in
-    let gathers : Gathers seats c.gather.new.wants.items =
-    subst (λ ss. Gathers ss c.gather.new.wants.items) c.as_slice.ensures.value
-    (on_ok c.gather.result (Gathers c.as_slice.result.now c.gather.new.wants.items)
-    (sym c.if-is_err.ensures.value) c.gather.ensures) in
+    let gathers = on_gathered c.gather.result _ seats c.gather.new.wants.items
+    c.as_slice.ensures.value (sym c.if-is_err.ensures.value) c.gather.ensures in
     let lanes : c.len-asked.result ≡ length (map (λ seat. seat.lane) seats) = count ∙
     sym (map_length (λ seat. seat.lane) seats) in
     no_idle_by e (serving c.args.self.now) (serving c.carry.new.self) c.poll.new.wants.items
