@@ -3,9 +3,8 @@ use Rattle.std.specs.Prelude.{ℕ, Bool, true, false, ◌==◌, List, [], ◌∷
 use Rattle.std.specs.Prelude.{slice_get, Option, None, Some, if◌then◌else◌}
 use Rattle.std.specs.List.{concat, list_any}
 use Rattle.std.specs.Option.{option_map_or}
-use Rattle.outside.specs.declared.types.Kind.{Kind}
-use Rattle.outside.specs.declared.types.Kind.TheVariants as kind
 use Rattle.outside.specs.declared.types.Listen.{Listen}
+use Rattle.outside.specs.Kinds.{kind_name}
 use Rattle.adjust.specs.Options.{Row, option_rows}
 use Rattle.adjust.specs.declared.options.Field.{Field}
 use Rattle.adjust.specs.declared.options.Field.TheVariants as field
@@ -71,14 +70,6 @@ host_text host =
 abbrev pub listen_text : Listen → List ℕ
 listen_text listen = host_text listen.host ++ (codes ":" ++ decimal listen.port)
 
-abbrev pub kind_text : Kind → List ℕ
-kind_text kind.Forwarded = codes "forwarded"
-kind_text kind.For = codes "x-forwarded-for"
-kind_text kind.Host = codes "x-forwarded-host"
-kind_text kind.Proto = codes "x-forwarded-proto"
-kind_text kind.Port = codes "x-forwarded-port"
-kind_text kind.By = codes "x-forwarded-by"
-
 -- the items with a byte between each two, or `none`
 abbrev pub list_text : {X : Type 0} → (X → List ℕ) → ℕ → List X → List ℕ
 list_text text between [] = codes "none"
@@ -101,7 +92,7 @@ field_text a field.NotShown = []
 field_text a field.Host = host_text a.host
 field_text a field.Listen = list_text listen_text 32 a.listen
 field_text a field.TrustedProxy = optional_text a.trusted_proxy
-field_text a field.TrustedProxyHeaders = list_text kind_text 44 a.trusted_proxy_headers
+field_text a field.TrustedProxyHeaders = list_text kind_name 44 a.trusted_proxy_headers
 field_text a field.ClearUntrustedProxyHeaders = flag_text a.clear_untrusted_proxy_headers
 field_text a field.UrlScheme = a.url_scheme
 field_text a field.UrlPrefix = a.url_prefix

@@ -1,6 +1,7 @@
 //! The adjustments as they are printed.
 ghost use Rattle.std.specs.Prelude.{◌≡◌, ◌++◌, ◌∷◌, ◌==◌, IfOk, OnOk, map};
 ghost use Rattle.std.specs.List.{concat, list_any};
+ghost use Rattle.outside.specs.Kinds.{kind_name};
 ghost use Rattle.adjust.specs.Options.{row_of};
 ghost use Rattle.adjust.specs.Texts as spec;
 
@@ -37,19 +38,6 @@ pub fn push_listen(text: &mut Vec<u8>, listen: &Listen) -> Result<(), AllocError
     push_number(text, u64::from(listen.port))
 }
 
-fn kind_text(kind: Kind) -> &'static [u8]
-    ensures { result.now ≡ spec.kind_text kind }
-{
-    match kind {
-        Kind::Forwarded => b"forwarded",
-        Kind::For => b"x-forwarded-for",
-        Kind::Host => b"x-forwarded-host",
-        Kind::Proto => b"x-forwarded-proto",
-        Kind::Port => b"x-forwarded-port",
-        Kind::By => b"x-forwarded-by",
-    }
-}
-
 fn push_listen_behind(text: &mut Vec<u8>, listen: &Listen) -> Result<(), AllocError>
     ensures { OnOk result (text.new.items ≡ text.old.items ++ (32 ∷ spec.listen_text listen.now)) }
 {
@@ -79,15 +67,15 @@ fn push_listens(text: &mut Vec<u8>, entries: &[Listen]) -> Result<(), AllocError
 }
 
 fn push_kind_behind(text: &mut Vec<u8>, kind: Kind) -> Result<(), AllocError>
-    ensures { OnOk result (text.new.items ≡ text.old.items ++ (44 ∷ spec.kind_text kind)) }
+    ensures { OnOk result (text.new.items ≡ text.old.items ++ (44 ∷ kind_name kind)) }
 {
     text.extend_from_slice(b",")?;
-    text.extend_from_slice(kind_text(kind))
+    text.extend_from_slice(kind.name())
 }
 
 fn push_other_kinds(text: &mut Vec<u8>, kinds: &[Kind]) -> Result<(), AllocError>
     ensures { OnOk result (text.new.items ≡ text.old.items ++ concat
-        (map (λ y. 44 ∷ spec.kind_text y) kinds.now)) }
+        (map (λ y. 44 ∷ kind_name y) kinds.now)) }
 {
     for kind in kinds {
         push_kind_behind(text, *kind)?;
@@ -96,13 +84,13 @@ fn push_other_kinds(text: &mut Vec<u8>, kinds: &[Kind]) -> Result<(), AllocError
 }
 
 fn push_kinds(text: &mut Vec<u8>, kinds: &[Kind]) -> Result<(), AllocError>
-    ensures { OnOk result (text.new.items ≡ text.old.items ++ spec.list_text spec.kind_text 44
+    ensures { OnOk result (text.new.items ≡ text.old.items ++ spec.list_text kind_name 44
         kinds.now) }
 {
     let Some((first, others)) = kinds.split_first() else {
         return text.extend_from_slice(b"none");
     };
-    text.extend_from_slice(kind_text(*first))?;
+    text.extend_from_slice(first.name())?;
     push_other_kinds(text, others)
 }
 

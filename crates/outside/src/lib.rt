@@ -9,6 +9,7 @@ mod answers;
 mod bytes;
 mod fails;
 mod items;
+mod kinds;
 mod laws;
 mod link;
 mod mem_entry;

@@ -1,23 +1,15 @@
--- The headers by which a proxy tells what it was asked: `Forwarded` (RFC 7239, section 4), and the
--- `X-Forwarded-` family that it stands for. Names are in lower case, as where a head was read.
-use Rattle.std.specs.Prelude.{ℕ, Bool, true, false, List, [], ◌∷◌, codes}
+-- The kinds of proxy headers, and lists of them.
+use Rattle.std.specs.Prelude.{ℕ, Bool, true, false, List, [], ◌∷◌}
 use Rattle.std.specs.List.{list_any}
 use Rattle.std.specs.Str.{bytes_eq}
 use Rattle.outside.specs.declared.types.Kind.{Kind}
 use Rattle.outside.specs.declared.types.Kind.TheVariants.{Forwarded, For, Host, Proto, Port, By}
-
-abbrev pub name_of : Kind → List ℕ
-name_of Forwarded = codes "forwarded"
-name_of For = codes "x-forwarded-for"
-name_of Host = codes "x-forwarded-host"
-name_of Proto = codes "x-forwarded-proto"
-name_of Port = codes "x-forwarded-port"
-name_of By = codes "x-forwarded-by"
+use Rattle.outside.specs.Kinds.{kind_name}
 
 -- whether a name is one of these six
 abbrev pub is_proxy_name : List ℕ → Bool
 is_proxy_name name =
-    list_any (λ kind. bytes_eq name (name_of kind))
+    list_any (λ kind. bytes_eq name (kind_name kind))
     (Forwarded ∷ For ∷ Host ∷ Proto ∷ Port ∷ By ∷ [])
 
 abbrev pub is_kind : Kind → Kind → Bool

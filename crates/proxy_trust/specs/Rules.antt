@@ -7,7 +7,8 @@ use Rattle.head_grammar.specs.declared.types.Field.{Field}
 use Rattle.outside.specs.declared.types.Kind.{Kind}
 use Rattle.outside.specs.declared.types.Kind.TheVariants.{Forwarded}
 use Rattle.outside.specs.declared.types.Peer.{Peer}
-use Rattle.proxy_trust.specs.Headers.{name_of, is_listed}
+use Rattle.outside.specs.Kinds.{kind_name}
+use Rattle.proxy_trust.specs.Headers.{is_listed}
 use Rattle.proxy_trust.specs.declared.types.ProxyRules.{ProxyRules}
 
 -- at least one proxy counts, and `Forwarded` is not believed yet
@@ -24,5 +25,5 @@ is_proxy (Some proxy) address = bytes_eq proxy (codes "*") || bytes_eq proxy add
 abbrev pub used : ProxyRules → Peer → List Field → Kind → Option (List ℕ)
 used rules peer fields kind =
     if is_proxy rules.proxy peer.addr && is_listed kind rules.kinds
-    then field_value (name_of kind) fields
+    then field_value (kind_name kind) fields
     else None

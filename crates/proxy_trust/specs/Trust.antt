@@ -7,7 +7,7 @@ use Rattle.outside.specs.declared.types.Kind.{Kind}
 use Rattle.outside.specs.declared.types.Kind.TheVariants.{For, Host, Proto, Port, By}
 use Rattle.outside.specs.declared.types.Peer.{Peer}
 use Rattle.proxy_trust.specs.Endpoints.{endpoint, is_port}
-use Rattle.proxy_trust.specs.Headers.{name_of}
+use Rattle.outside.specs.Kinds.{kind_name}
 use Rattle.proxy_trust.specs.Kept.{host_name, kept_fields, new_field}
 use Rattle.proxy_trust.specs.Lists.{listed}
 use Rattle.proxy_trust.specs.Rules.{used}
@@ -87,11 +87,11 @@ server_port None None scheme = option_map default_port scheme
 -- the new fields
 abbrev pub new_fields : ProxyHeaders → List Field
 new_fields headers =
-    new_field (name_of For) (option_map (λ clients. clients.kept) headers.clients)
-    ++ new_field (name_of Host) (option_map (λ hosts. hosts.kept) headers.hosts)
-    ++ new_field (name_of Proto) (option_map (λ proto. proto.kept) headers.proto)
-    ++ new_field (name_of Port) headers.port
-    ++ new_field (name_of By) headers.by
+    new_field (kind_name For) (option_map (λ clients. clients.kept) headers.clients)
+    ++ new_field (kind_name Host) (option_map (λ hosts. hosts.kept) headers.hosts)
+    ++ new_field (kind_name Proto) (option_map (λ proto. proto.kept) headers.proto)
+    ++ new_field (kind_name Port) headers.port
+    ++ new_field (kind_name By) headers.by
     ++ new_field host_name (option_map (λ hosts. hosts.field) headers.hosts)
 
 -- what is made of a request whose proxy headers say this

@@ -7,20 +7,6 @@ use crate::ProxyRules;
 use head_grammar::Fields;
 use outside::{Bytes, Kind, Peer};
 
-/// The name of a kind's header, in lower case.
-pub(crate) fn name_of(kind: Kind) -> &'static [u8]
-    ensures { result.now ≡ spec.name_of kind }
-{
-    match kind {
-        Kind::Forwarded => b"forwarded",
-        Kind::For => b"x-forwarded-for",
-        Kind::Host => b"x-forwarded-host",
-        Kind::Proto => b"x-forwarded-proto",
-        Kind::Port => b"x-forwarded-port",
-        Kind::By => b"x-forwarded-by",
-    }
-}
-
 const KINDS: [Kind; 6] = [
     Kind::Forwarded,
     Kind::For,
@@ -34,7 +20,7 @@ const KINDS: [Kind; 6] = [
 pub(crate) fn is_proxy_name(name: &[u8]) -> bool
     ensures { result ≡ spec.is_proxy_name name.now }
 {
-    KINDS.iter().any(|kind| name == name_of(*kind))
+    KINDS.iter().any(|kind| name == kind.name())
 }
 
 /// Whether a kind stands in the list.
@@ -67,5 +53,5 @@ pub(crate) fn used<'a>(
     if !believed {
         return None;
     }
-    fields.value_of(name_of(kind))
+    fields.value_of(kind.name())
 }

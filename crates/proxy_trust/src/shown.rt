@@ -2,7 +2,7 @@
 ghost use Rattle.std.specs.Bool.{OnTrue};
 ghost use Rattle.proxy_trust.specs.Rules.{IsSound};
 
-use crate::headers::{is_listed, name_of};
+use crate::headers::is_listed;
 use crate::{ProxyFault, ProxyRules, Trusted, trust};
 use head_grammar::{Field, FieldList};
 use outside::{Bytes, Items, Kind, Peer};
@@ -156,7 +156,7 @@ fn answer(alloc: Global, rules: Rules, addr: &str, fields: &str) -> Result<Vec<u
     let fields = FieldList::of(alloc, &fields_of(alloc, fields)?)?;
     match trust(alloc, &rules, &peer, &fields.fields()) {
         Ok(trusted) => return show(alloc, &trusted),
-        Err(ProxyFault::Malformed(kind)) => show_name(&mut text, name_of(kind))?,
+        Err(ProxyFault::Malformed(kind)) => show_name(&mut text, kind.name())?,
         Err(ProxyFault::NoMemory) => {}
     }
     Ok(text)

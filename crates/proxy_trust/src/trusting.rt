@@ -5,7 +5,6 @@ ghost use Rattle.proxy_trust.specs.Rules.{IsSound};
 ghost use Rattle.proxy_trust.specs.Trust as spec;
 
 use crate::endpoint::Endpoint;
-use crate::headers::name_of;
 use crate::keeping::{HOST, add_new, keep_fields};
 use crate::reading::{ClientList, HostList, ProxyHeaders, Scheme, SentScheme, read_all};
 use crate::{ProxyFault, ProxyRules, Trusted};
@@ -116,11 +115,11 @@ fn take_headers<'a>(
     let (proto, scheme) = proto_parts(headers.proto);
     let server_port = server_port(alloc, &headers.port, host_port, scheme)?;
     let mut news = Vec::new(alloc);
-    add_new(&mut news, name_of(Kind::For), clients)?;
-    add_new(&mut news, name_of(Kind::Host), hosts)?;
-    add_new(&mut news, name_of(Kind::Proto), proto)?;
-    add_new(&mut news, name_of(Kind::Port), headers.port)?;
-    add_new(&mut news, name_of(Kind::By), headers.by)?;
+    add_new(&mut news, Kind::For.name(), clients)?;
+    add_new(&mut news, Kind::Host.name(), hosts)?;
+    add_new(&mut news, Kind::Proto.name(), proto)?;
+    add_new(&mut news, Kind::Port.name(), headers.port)?;
+    add_new(&mut news, Kind::By.name(), headers.by)?;
     add_new(&mut news, HOST, host)?;
     Ok(Trusted {
         fields: keep_fields(alloc, fields, news, clear)?,
