@@ -3,6 +3,7 @@ ghost use Rattle.std.specs.Prelude.{◌≡◌, ◌≤◌, ◌<◌, ◌-◌, ◌+
 ghost use Rattle.std.specs.Prelude.{map, IfOk, IfErr, OnOk};
 ghost use Rattle.head_grammar.specs.Ends.{head_end as end_of};
 ghost use Rattle.request_stream.specs.Asks.{asks, sizes, IsCaused};
+ghost use Rattle.request_stream.specs.Pieces.{IsFed};
 ghost use Rattle.request_stream.specs.Reading.{IsSound, IsSoundHead, ArePositive, OpensBy, LeadsBy};
 ghost use Rattle.request_stream.specs.Reading.{EndsBy, KeepsHead, SeeksOn};
 ghost use Rattle.request_stream.specs.Room.{Holds, StaysWithin, held_of};
@@ -134,8 +135,7 @@ fn seek_first<S: Spill + Drop, P: Spills<Spill = S>>(
     spills: &mut P,
     given: &mut Vec<Unit<S>>,
 ) -> Result<Step<S>, StreamFault<S>>
-    requires some { 0 < length piece.now }
-    requires positive { ArePositive limits.now }
+    requires fed { IsFed limits.now piece.now }
     requires none { end_of [] ≡ None }
     ensures taken { IfOk result (λ s. (0 < s.taken) × (s.taken ≤ length piece.now)) }
     ensures sound { IfOk result (λ s. IsSound limits.now s.state) }
@@ -167,8 +167,7 @@ pub(crate) fn seek<S: Spill + Drop, P: Spills<Spill = S>>(
     spills: &mut P,
     given: &mut Vec<Unit<S>>,
 ) -> Result<Step<S>, StreamFault<S>>
-    requires some { 0 < length piece.now }
-    requires positive { ArePositive limits.now }
+    requires fed { IsFed limits.now piece.now }
     requires sound { IsSoundHead limits.now held.items }
     ensures taken { IfOk result (λ s. (0 < s.taken) × (s.taken ≤ length piece.now)) }
     ensures sound { IfOk result (λ s. IsSound limits.now s.state) }

@@ -2,6 +2,7 @@
 ghost use Rattle.std.specs.Prelude.{◌≡◌, ◌≤◌, ◌<◌, ◌+◌, [], true, false, length, take, map, IfOk};
 ghost use Rattle.std.specs.Prelude.{IfErr, OnOk, OnErr, All};
 ghost use Rattle.request_stream.specs.Asks.{asks, sizes, IsCaused};
+ghost use Rattle.request_stream.specs.Pieces.{IsFed};
 ghost use Rattle.request_stream.specs.Reading.{Reads, Shuts, IsSound, ArePositive, is_failed};
 ghost use Rattle.request_stream.specs.Room.{Holds, IsWithin, StaysWithin, held_of};
 ghost use Rattle.request_stream.specs.Units.{stamped};
@@ -24,8 +25,7 @@ fn advance<S: Spill + Drop, P: Spills<Spill = S>>(
     spills: &mut P,
     given: &mut Vec<Unit<S>>,
 ) -> Result<Step<S>, StreamFault<S>>
-    requires some { 0 < length piece.now }
-    requires positive { ArePositive limits.now }
+    requires fed { IsFed limits.now piece.now }
     requires sound { IsSound limits.now state }
     ensures taken { IfOk result (λ s. (0 < s.taken) × (s.taken ≤ length piece.now)) }
     ensures sound { IfOk result (λ s. IsSound limits.now s.state) }
@@ -55,7 +55,7 @@ fn advance<S: Spill + Drop, P: Spills<Spill = S>>(
 pub(crate) fn run<S: Spill + Drop, P: Spills<Spill = S>>(
     alloc: Global,
     limits: &Limits,
-    state: State<S>,
+    mut state: State<S>,
     now: u64,
     piece: &[u8],
     spills: &mut P,
@@ -74,7 +74,6 @@ pub(crate) fn run<S: Spill + Drop, P: Spills<Spill = S>>(
     ensures cause { IfErr result (λ f. IsCaused S.faults f) }
     ensures spills { P.faults spills.new ≡ P.faults spills.old }
 {
-    let mut state = state;
     let mut at = 0;
     while at < piece.len() {
         let step = advance(alloc, limits, state, now, &piece[at..], spills, given)?;

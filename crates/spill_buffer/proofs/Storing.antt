@@ -145,6 +145,16 @@ some_spilled tells bytes memory content skipped start end size in_memory sized s
     length whole in
     omega (arith, long, same, held, some)
 
+pub not_all : (tells : Bool) (bytes memory content : List ℕ)
+    (skipped start end size in_memory : ℕ) → (IsTrue tells → length content ≡ size) → end ≤ size →
+    drop skipped memory ++ stored tells content start end ≡ bytes → length memory - skipped ≡
+    in_memory → start < end → in_memory ≡ length bytes → ⊥
+not_all tells bytes memory content skipped start end size in_memory sized stands whole held some
+    all =
+    let more : in_memory < length bytes = some_spilled tells bytes memory content skipped start end
+    size in_memory sized stands whole held some in
+    omega (arith, more, all)
+
 -- and where none do, all are
 pub none_spilled : (tells : Bool) (bytes memory content : List ℕ) (skipped start end in_memory : ℕ)
     → drop skipped memory ++ stored tells content start end ≡ bytes →

@@ -2,7 +2,7 @@ use Rattle.std.proofs.Common.{◌≡◌, ◌<◌, ◌+◌, ◌-◌, length, take
 use Rattle.std.proofs.Common.{arith}
 use Rattle.std.proofs.lemmas.List.{length-append, length-drop, append-nil, take_all}
 use Rattle.spill_buffer.specs.Buffer.{stored}
-use Rattle.spill_buffer.proofs.Storing.{follows, moves, grown, length_whole, some_spilled}
+use Rattle.spill_buffer.proofs.Storing.{follows, moves, grown, length_whole, not_all, some_spilled}
 use Rattle.spill_buffer.proofs.Storing.{none_spilled, only_memory, told_as, none_stored, on_err}
 use Rattle.spill_buffer.proofs.buffer.OverflowBuffer.append.Goals as goal
 
@@ -20,12 +20,10 @@ returns-then-self-clause-appended g c =
 pub returns-then-self-clause-in_memory : goal.returns-then-self-clause-in_memory
 returns-then-self-clause-in_memory g c = λ all below.
     let b = c.self.inside in
-    let more : c.args.self.now.in_memory < length c.args.self.now.bytes = some_spilled
-    g.S.Spill.tells c.args.self.now.bytes b.memory.items (g.S.Spill.content b.spill) b.skipped
-    b.start b.end (g.S.Spill.size b.spill) c.args.self.now.in_memory
-    (g.met.S.Spill.sized b.spill) c.self.invariant.stands (ap (λ v. v.bytes) c.self.view_is)
-    (ap (λ v. v.in_memory) c.self.view_is) c.if-self.true in
-    absurd (omega (arith, more, all))
+    absurd (not_all g.S.Spill.tells c.args.self.now.bytes b.memory.items
+    (g.S.Spill.content b.spill) b.skipped b.start b.end (g.S.Spill.size b.spill)
+    c.args.self.now.in_memory (g.met.S.Spill.sized b.spill) c.self.invariant.stands
+    (ap (λ v. v.bytes) c.self.view_is) (ap (λ v. v.in_memory) c.self.view_is) c.if-self.true all)
 
 pub returns-then-self-clause-known : goal.returns-then-self-clause-known
 returns-then-self-clause-known g c = λ all.

@@ -2,7 +2,7 @@ use Rattle.std.proofs.Common.{◌≡◌, ◌≤◌, ◌<◌, ◌-◌, length, ta
 use Rattle.std.specs.Prelude.{min}
 use Rattle.std.proofs.lemmas.List.{length-take, take-append-le}
 use Rattle.spill_buffer.specs.Buffer.{stored}
-use Rattle.spill_buffer.proofs.Storing.{front_stored, some_spilled, none_spilled, only_stored}
+use Rattle.spill_buffer.proofs.Storing.{front_stored, not_all, none_spilled, only_stored}
 use Rattle.spill_buffer.proofs.buffer.OverflowBuffer.front.Goals as goal
 
 pub returns-then-self-clause-front : goal.returns-then-self-clause-front
@@ -30,12 +30,10 @@ returns-then-self-clause-front g c = λ told.
 pub returns-then-self-clause-known : goal.returns-then-self-clause-known
 returns-then-self-clause-known g c = λ all.
     let b = c.self.inside in
-    let more : c.args.self.now.in_memory < length c.args.self.now.bytes = some_spilled
-    g.S.Spill.tells c.args.self.now.bytes b.memory.items (g.S.Spill.content b.spill) b.skipped
-    b.start b.end (g.S.Spill.size b.spill) c.args.self.now.in_memory
-    (g.met.S.Spill.sized b.spill) c.self.invariant.stands (ap (λ v. v.bytes) c.self.view_is)
-    (ap (λ v. v.in_memory) c.self.view_is) c.if-self.true in
-    absurd (omega (arith, more, all))
+    absurd (not_all g.S.Spill.tells c.args.self.now.bytes b.memory.items
+    (g.S.Spill.content b.spill) b.skipped b.start b.end (g.S.Spill.size b.spill)
+    c.args.self.now.in_memory (g.met.S.Spill.sized b.spill) c.self.invariant.stands
+    (ap (λ v. v.bytes) c.self.view_is) (ap (λ v. v.in_memory) c.self.view_is) c.if-self.true all)
 
 pub returns-clause-count : goal.returns-clause-count
 returns-clause-count g c =
