@@ -10,7 +10,7 @@ use Rattle.outside.specs.Link.{LinkState, Sends}
 use Rattle.outside.specs.declared.types.End.{End}
 use Rattle.outside.specs.declared.types.End.TheVariants as over
 use Rattle.outside.specs.declared.types.Sent.TheVariants.{Took}
-use Rattle.outside.specs.declared.told.Told.{Told}
+use Rattle.outside.specs.declared.noted.Noted.{Noted}
 use Rattle.channel.specs.declared.shared.Fixed.{Fixed}
 use Rattle.request_stream.specs.Asks.{IsAdded, asks}
 use Rattle.request_stream.specs.Units.{Asked, closing, units}
@@ -49,7 +49,7 @@ module _ {A R S : Type 0} (known : Known A R S) where
       KeepsSide known.spill_tells a.fixed.value.limits a.fixed.value.window.timeout s l →
       KeepsSide known.spill_tells b.fixed.value.limits b.fixed.value.window.timeout t
       (left_turn l e)
-      = λ l r was side. subst (λ (z : Told (Fixed A)). KeepsSide known.spill_tells z.value.limits
+      = λ l r was side. subst (λ (z : Noted (Fixed A)). KeepsSide known.spill_tells z.value.limits
       z.value.window.timeout t (left_turn l e)) (sym first.fixed) (first.keeps l r was side) in
       record {
         fixed = second.fixed ∙ first.fixed;
@@ -57,7 +57,7 @@ module _ {A R S : Type 0} (known : Known A R S) where
             (second.agrees (left_turn l e) r (first.agrees l r was side) (mid l r was side));
         keeps = λ l r was side. subst (λ (x : LeftPast S). KeepsSide known.spill_tells
             a.fixed.value.limits a.fixed.value.window.timeout u x) (sym (acts l))
-            (subst (λ (z : Told (Fixed A)). KeepsSide known.spill_tells z.value.limits
+            (subst (λ (z : Noted (Fixed A)). KeepsSide known.spill_tells z.value.limits
             z.value.window.timeout u (left_turn (left_turn l e) f)) first.fixed
             (second.keeps (left_turn l e) r (first.agrees l r was side) (mid l r was side)));
         answers = λ l r was side a. second.answers (left_turn l e) r (first.agrees l r was side)

@@ -1,7 +1,7 @@
 -- A channel as it is opened.
 use Rattle.std.proofs.Common.{◌≡◌, ℕ, Bool, true, false, IsTrue, List, [], length, Some, None, refl}
 use Rattle.std.proofs.Common.{sym, ap, subst, ◌∙◌, arith}
-use Rattle.outside.specs.declared.told.Told.{Told}
+use Rattle.outside.specs.declared.noted.Noted.{Noted}
 use Rattle.outside.specs.declared.types.Peer.{Peer}
 use Rattle.request_stream.specs.Asks.{AreAskedAs}
 use Rattle.request_stream.specs.Units.{units, units_within}
@@ -27,7 +27,7 @@ no_texts : {S : Type 0} (site : Site) (script : Script) (peer : Peer) →
 unfolding joined
 no_texts site script peer = record { whole = refl; closes = refl; front = λ c e. cc }
 
-pub opened_agrees : {A R S : Type 0} (known : Known A R S) (fixed : Told (Fixed A))
+pub opened_agrees : {A R S : Type 0} (known : Known A R S) (fixed : Noted (Fixed A))
     (output : Buffered S) → output.bytes ≡ [] → Agrees known
     (opened_state fixed output) left_start right_start
 opened_agrees known fixed output empty = record {
@@ -114,7 +114,7 @@ opened_writing tells rest site script peer = record {
 module _ {S : Type 0} (left : List (LeftEntry S)) (right : List (RightEntry S)) (no_left : left
     ≡ []) (no_right : right ≡ []) where
   pub agrees_at : {A R : Type 0} (known : Known A R S) (state : State A R S)
-      (fixed : Told (Fixed A)) (output : Buffered S) → state ≡ opened_state fixed output →
+      (fixed : Noted (Fixed A)) (output : Buffered S) → state ≡ opened_state fixed output →
       output.bytes ≡ [] → Agrees known state (left_past left) (right_past right)
   agrees_at {A} {R} known state fixed output e empty =
       subst (λ (x : List (LeftEntry S)). Agrees known state (left_past x) (right_past right))

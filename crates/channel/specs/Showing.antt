@@ -8,7 +8,7 @@ use Rattle.channel.specs.State.{State, state_of}
 use Rattle.channel.specs.Views.{Shown}
 use Rattle.channel.specs.declared.shared.Shared.{Shared}
 use Rattle.channel.specs.declared.sides.Acts.{Acts}
-use Rattle.outside.specs.declared.told.Told.{Told}
+use Rattle.outside.specs.declared.noted.Noted.{Noted}
 
 -- left is the number of steps that the run of the current answer may have left
 abbrev pub shown_of : {A R S : Type 0} → Story → Bool → ℕ → State A R S → LeftPast S → RightPast S →
@@ -29,6 +29,6 @@ shown_of story ended touched s l r left = record {
 }
 
 -- the same, by what is told of what both sides did
-abbrev pub shown_by : {A R S : Type 0} → Story → Bool → ℕ → Shared A R S → Told (Acts S) → ℕ → Shown
+abbrev pub shown_by : {A R S : Type 0} → Story → Bool → ℕ → Shared A R S → Noted (Acts S) → ℕ → Shown
 shown_by story ended touched state acts left = shown_of story ended touched (state_of state)
     (left_past acts.value.left) (right_past acts.value.right) left

@@ -23,7 +23,7 @@ use Rattle.channel.specs.Views.{View}
 use Rattle.channel.specs.declared.near.Near.{Near}
 use Rattle.channel.specs.declared.shared.Shared.{Shared}
 use Rattle.channel.specs.declared.sides.Acts.{Acts}
-use Rattle.outside.specs.declared.told.Told.{Told}
+use Rattle.outside.specs.declared.noted.Noted.{Noted}
 use Rattle.channel.specs.declared.types.Window.{Window}
 
 -- how links are seen
@@ -153,7 +153,7 @@ module _ {L P A R S : Type 0} (links : Linked L P) where
   }
 
   -- the same, by what is told of what both sides did
-  abbrev pub view_by : Near L A S R → Shared A R S → Told (Acts S) → ℕ → View
+  abbrev pub view_by : Near L A S R → Shared A R S → Noted (Acts S) → ℕ → View
   view_by near state acts left = view_of near (state_of state) (left_past acts.value.left)
       (right_past acts.value.right) left
 

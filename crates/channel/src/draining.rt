@@ -10,7 +10,7 @@ use crate::near::{Moved, Near, end_broken, kill};
 use crate::noting::{Drains, LeftEntry, Looked, Then};
 use crate::shared::Shared;
 use crate::types::Acted;
-use outside::{End, Link, Sent, Spill, tell};
+use outside::{End, Link, Sent, Spill, note};
 use std::snapshot::Snapshot;
 use wsgi::App;
 
@@ -32,11 +32,11 @@ impl<L: Link + Drop, A: App<S>, S: Spill + Send + Drop> Near<L, A, S> {
             Sent::Took(count) => {
                 self.touched = now;
                 let taken = &bytes[..count];
-                let entry = tell::<_, _, Drains>(&taken);
+                let entry = note::<_, _, Drains>(&taken);
                 state.skip(count as u64);
                 (Moved::Took, entry)
             }
-            Sent::NotYet => (Moved::PutOff, tell::<_, _, Looked>(&())),
+            Sent::NotYet => (Moved::PutOff, note::<_, _, Looked>(&())),
             Sent::Failed => (Moved::Failed, kill(state, End::LinkFault)),
         }
     }
@@ -71,9 +71,9 @@ impl<L: Link + Drop, A: App<S>, S: Spill + Send + Drop> Near<L, A, S> {
                 self.touched = now;
                 state.skip(taken as u64);
                 let bytes = &room[..taken];
-                (Moved::Took, tell::<_, _, Drains>(&bytes))
+                (Moved::Took, note::<_, _, Drains>(&bytes))
             }
-            Sent::NotYet => (Moved::PutOff, tell::<_, _, Looked>(&())),
+            Sent::NotYet => (Moved::PutOff, note::<_, _, Looked>(&())),
             Sent::Failed => (Moved::Failed, kill(state, End::LinkFault)),
         }
     }
@@ -94,7 +94,7 @@ impl<L: Link + Drop, A: App<S>, S: Spill + Send + Drop> Near<L, A, S> {
             (SaysSome L.tells now result.0) }
     {
         if state.dead.is_some() || !state.has_output() {
-            return (Moved::Idle, tell::<_, _, Looked>(&()));
+            return (Moved::Idle, note::<_, _, Looked>(&()));
         }
         if state.lent().is_empty() {
             return self.send_stored(now, room, state);
@@ -170,6 +170,6 @@ impl<L: Link + Drop, A: App<S>, S: Spill + Send + Drop> Near<L, A, S> {
         };
         let ends = kill(state, end);
         let both = (Snapshot::of(&entry), Snapshot::of(&ends));
-        (Acted::Over(end), tell::<_, _, Then>(&both))
+        (Acted::Over(end), note::<_, _, Then>(&both))
     }
 }

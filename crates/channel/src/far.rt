@@ -17,7 +17,7 @@ use crate::noting::{Begins, Breaks, Looked, RightEntry, Then, Written};
 use crate::shared::Shared;
 use crate::types::{Cause, Progress};
 use crate::writing::Writing;
-use outside::{Peer, Spill, tell};
+use outside::{Peer, Spill, note};
 use spill_buffer::BufferFault;
 use std::alloc::Global;
 use std::snapshot::Snapshot;
@@ -65,10 +65,10 @@ pub(crate) fn begin_next<A: App<S>, S: Spill + Send + Drop>(
         return Turned {
             progress: Progress::Rest,
             writing: Writing::Idle,
-            entry: tell::<_, _, Looked>(&()),
+            entry: note::<_, _, Looked>(&()),
         };
     };
-    let began = tell::<_, _, Begins>(&unit);
+    let began = note::<_, _, Begins>(&unit);
     match begin(alloc, app, site, peer, unit) {
         Ok(writing) => Turned {
             progress: Progress::More,
@@ -78,12 +78,12 @@ pub(crate) fn begin_next<A: App<S>, S: Spill + Send + Drop>(
         Err(_) => {
             let cause = Cause::NoMemory;
             state.break_off(cause, None);
-            let broke = tell::<_, _, Breaks>(&cause);
+            let broke = note::<_, _, Breaks>(&cause);
             let both = (Snapshot::of(&began), Snapshot::of(&broke));
             Turned {
                 progress: Progress::Broke(cause),
                 writing: Writing::Idle,
-                entry: tell::<_, _, Then>(&both),
+                entry: note::<_, _, Then>(&both),
             }
         }
     }
@@ -108,7 +108,7 @@ fn break_off<A: App<S>, S: Spill + Send + Drop>(
     Turned {
         progress: Progress::Broke(cause),
         writing,
-        entry: tell::<_, _, Breaks>(&cause),
+        entry: note::<_, _, Breaks>(&cause),
     }
 }
 
@@ -149,12 +149,12 @@ fn write<A: App<S>, S: Spill + Send + Drop>(
     match state.add(text, ended) {
         Ok(()) => {
             let about = (text, ended);
-            Ok(tell::<_, _, Written>(&about))
+            Ok(note::<_, _, Written>(&about))
         }
         Err(fault) => {
             let cause = cause_of(fault);
             state.break_off(cause, None);
-            Err((cause, tell::<_, _, Breaks>(&cause)))
+            Err((cause, note::<_, _, Breaks>(&cause)))
         }
     }
 }
@@ -206,12 +206,12 @@ pub(crate) fn add_text<A: App<S>, S: Spill + Send + Drop>(
         Writing::Scripted(script) => Turned {
             progress: Progress::More,
             writing: Writing::Scripted(script),
-            entry: tell::<_, _, Looked>(&()),
+            entry: note::<_, _, Looked>(&()),
         },
         Writing::Idle => Turned {
             progress: Progress::More,
             writing: Writing::Idle,
-            entry: tell::<_, _, Looked>(&()),
+            entry: note::<_, _, Looked>(&()),
         },
     }
 }

@@ -13,7 +13,7 @@ ghost use Rattle.channel.specs.State.{opened_state, state_of};
 
 use crate::shared::{Fixed, Shared};
 use crate::types::Cause;
-use outside::{End, Failed, NoMemory, Spill, Told};
+use outside::{End, Failed, NoMemory, Noted, Spill};
 use request_stream::Unit;
 use spill_buffer::{BufferFault, OverflowBuffer};
 use std::alloc::Global;
@@ -34,7 +34,7 @@ impl Cause {
 impl<A, R: Drop, S: Spill + Drop> Shared<A, R, S> {
     pub(crate) fn new(
         alloc: Global,
-        fixed: Told<Fixed<A>>,
+        fixed: Noted<Fixed<A>>,
         output: OverflowBuffer<S>,
     ) -> Shared<A, R, S>
         ensures { state_of result ≡ opened_state fixed output }

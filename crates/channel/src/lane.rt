@@ -21,7 +21,7 @@ use crate::shared::{Fixed, Shared};
 use crate::sides::{Channel, NoActs};
 use crate::types::{Acted, Closed, Progress, Window};
 use crate::writing::Writing;
-use outside::{Link, Peer, Spill, Spills, Tells, Want, tell};
+use outside::{Link, Notes, Peer, Spill, Spills, Want, note};
 use request_stream::Limits;
 use spill_buffer::OverflowBuffer;
 use std::alloc::{AllocFailed, Global};
@@ -217,8 +217,8 @@ impl<'a, L: Link + Drop, A: App<S>, S: Spill + Send + Drop> Lane<'a, L, A, S> {
 
 struct Opens;
 
-impl<'a, A> Tells<(&'a A, &'a Site, &'a Peer, Limits, Window), Fixed<A>> for Opens {
-    ghost told = { λ x. record {
+impl<'a, A> Notes<(&'a A, &'a Site, &'a Peer, Limits, Window), Fixed<A>> for Opens {
+    ghost noted = { λ x. record {
       app = x.0.now;
       site = x.1.now;
       peer = x.2.now;
@@ -259,7 +259,7 @@ pub fn open_lane<'a, L: Link + Drop, P: Spills, A: App<P::Spill>>(
     ensures spills { P.faults spills.new ≡ P.faults spills.old }
 {
     let about = (app, site, &peer, limits, window);
-    let fixed = tell::<_, _, Opens>(&about);
+    let fixed = note::<_, _, Opens>(&about);
     let output = OverflowBuffer::new(alloc, spills.make(), window.outbuf_overflow);
     let channel = Channel {
         alloc,
@@ -268,7 +268,7 @@ pub fn open_lane<'a, L: Link + Drop, P: Spills, A: App<P::Spill>>(
         near: Near::new(alloc, now, link, peer, limits, window),
         writing: Writing::Idle,
         state: Shared::new(alloc, fixed, output),
-        acts: tell::<_, _, NoActs>(&()),
+        acts: note::<_, _, NoActs>(&()),
     };
     match Box::new(alloc, channel) {
         Ok(channel) => Ok(Lane { channel }),

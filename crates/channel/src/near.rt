@@ -17,7 +17,7 @@ use crate::functions::spill_of;
 use crate::noting::{Breaks, Buried, Kills, LeftEntry, Then};
 use crate::shared::Shared;
 use crate::types::{Acted, Closed, Window};
-use outside::{End, Link, Peer, Spill, tell};
+use outside::{End, Link, Peer, Spill, note};
 use request_stream::{Limits, Stream};
 use std::alloc::Global;
 use std::snapshot::Snapshot;
@@ -140,7 +140,7 @@ impl<L: Link + Drop, A: App<S>, S: Spill + Send + Drop> Near<L, A, S> {
         self.buried = true;
         self.fallen = run;
         self.broken = spill_of(output, self.broken.take());
-        tell::<_, _, Buried>(&())
+        note::<_, _, Buried>(&())
     }
 
     // Answers how the channel is over, or else what was done. The first to tell of what broke takes
@@ -178,7 +178,7 @@ impl<L: Link + Drop, A: App<S>, S: Spill + Send + Drop> Near<L, A, S> {
         }
         let buried = self.bury(state, end);
         let both = (Snapshot::of(&entry), Snapshot::of(&buried));
-        (Acted::Over(end), tell::<_, _, Then>(&both))
+        (Acted::Over(end), note::<_, _, Then>(&both))
     }
 
     pub(crate) fn into_link(self) -> (L, Peer)
@@ -247,7 +247,7 @@ pub(crate) fn kill<A, R: Drop, S: Spill + Drop>(
     ensures told { result.value ≡ killed end ∷ [] }
 {
     state.kill(end);
-    tell::<_, _, Kills>(&end)
+    note::<_, _, Kills>(&end)
 }
 
 // A spill failed in this turn, and the channel ends: what broke is taken out at once. Where no
@@ -268,7 +268,7 @@ pub(crate) fn end_broken<A, R: Drop, S: Spill + Drop>(
     state.kill(End::SpillFault);
     let is_output = broken.is_none();
     let (fallen, output) = state.bury(is_output);
-    let entry = tell::<_, _, Breaks>(&End::SpillFault);
+    let entry = note::<_, _, Breaks>(&End::SpillFault);
     (spill_of(output, broken), fallen, entry)
 }
 

@@ -9,7 +9,7 @@ use crate::near::{Moved, Near, end_broken, kill};
 use crate::noting::{LeftEntry, Looked, Puts};
 use crate::shared::Shared;
 use crate::types::Acted;
-use outside::{End, Link, Recv, Spill, Spills, tell};
+use outside::{End, Link, Recv, Spill, Spills, note};
 use request_stream::{StreamFault, units_grow};
 use std::alloc::Global;
 use wsgi::App;
@@ -47,7 +47,7 @@ impl<L: Link + Drop, A: App<S>, S: Spill + Send + Drop> Near<L, A, S> {
         match self.stream.feed(alloc, now, piece, spills) {
             Ok(units) => {
                 let about = (&units, self.stream.held());
-                let puts = tell::<_, _, Puts>(&about);
+                let puts = note::<_, _, Puts>(&about);
                 match state.put(units) {
                     Ok(()) => (Moved::Got, puts),
                     Err(_) => (Moved::NoMemory, kill(state, End::NoMemory)),
@@ -88,10 +88,10 @@ impl<L: Link + Drop, A: App<S>, S: Spill + Send + Drop> Near<L, A, S> {
     {
         match self.link.recv(now, room) {
             Recv::Got(count) => self.take_in(alloc, now, &room[..count], state, spills),
-            Recv::NotYet => (Moved::PutOff, tell::<_, _, Looked>(&())),
+            Recv::NotYet => (Moved::PutOff, note::<_, _, Looked>(&())),
             Recv::End => {
                 self.ended = true;
-                (Moved::Ended, tell::<_, _, Looked>(&()))
+                (Moved::Ended, note::<_, _, Looked>(&()))
             }
             Recv::Failed => (Moved::Failed, kill(state, End::LinkFault)),
         }
@@ -117,7 +117,7 @@ impl<L: Link + Drop, A: App<S>, S: Spill + Send + Drop> Near<L, A, S> {
         ensures spills { P.faults spills.new ≡ P.faults spills.old }
     {
         if state.dead.is_some() || !self.is_readable(state) {
-            return (Moved::Idle, tell::<_, _, Looked>(&()));
+            return (Moved::Idle, note::<_, _, Looked>(&()));
         }
         self.receive(alloc, now, room, state, spills)
     }

@@ -26,7 +26,7 @@ use crate::noting::{LeftEntry, RightEntry};
 use crate::shared::Shared;
 use crate::types::{Acted, Closed, Progress};
 use crate::writing::{Script, Waiting, Writing};
-use outside::{Link, Peer, Spill, Spills, Tells, Told, Want, tell};
+use outside::{Link, Noted, Notes, Peer, Spill, Spills, Want, note};
 use std::alloc::Global;
 use std::collections::LinkedList;
 use std::mem;
@@ -41,18 +41,18 @@ pub struct Acts<S: Spill> {
 
 pub(crate) struct NoActs;
 
-impl<S: Spill> Tells<(), Acts<S>> for NoActs {
+impl<S: Spill> Notes<(), Acts<S>> for NoActs {
     ghost use Rattle.std.specs.Prelude.{[]};
 
-    ghost told = { λ _. record { left = []; right = [] } };
+    ghost noted = { λ _. record { left = []; right = [] } };
 }
 
 struct AddsLeft;
 
-impl<S: Spill> Tells<(Snapshot<Told<Acts<S>>>, Snapshot<LeftEntry<S>>), Acts<S>> for AddsLeft {
+impl<S: Spill> Notes<(Snapshot<Noted<Acts<S>>>, Snapshot<LeftEntry<S>>), Acts<S>> for AddsLeft {
     ghost use Rattle.std.specs.Prelude.{[], ◌∷◌, ◌++◌};
 
-    ghost told = { λ x. record {
+    ghost noted = { λ x. record {
       left = x.0.value.value.left ++ x.1.value ∷ [];
       right =
           x.0.value.value.right;
@@ -61,10 +61,10 @@ impl<S: Spill> Tells<(Snapshot<Told<Acts<S>>>, Snapshot<LeftEntry<S>>), Acts<S>>
 
 struct AddsRight;
 
-impl<S: Spill> Tells<(Snapshot<Told<Acts<S>>>, Snapshot<RightEntry<S>>), Acts<S>> for AddsRight {
+impl<S: Spill> Notes<(Snapshot<Noted<Acts<S>>>, Snapshot<RightEntry<S>>), Acts<S>> for AddsRight {
     ghost use Rattle.std.specs.Prelude.{[], ◌∷◌, ◌++◌};
 
-    ghost told = { λ x. record {
+    ghost noted = { λ x. record {
       left = x.0.value.value.left;
       right = x.0.value.value.right ++
           x.1.value ∷ [];
@@ -80,7 +80,7 @@ pub(crate) struct Channel<'a, L: Link, A: App<S>, S: Spill> {
     pub(crate) near: Near<L, A, S>,
     pub(crate) writing: Writing<A::Run>,
     pub(crate) state: Shared<A, A::Run, S>,
-    pub(crate) acts: Told<Acts<S>>,
+    pub(crate) acts: Noted<Acts<S>>,
     ghost app_is: { state.fixed.value.app ≡ app.now },
     ghost site_is: { state.fixed.value.site ≡ site.now },
     ghost peer_is: { state.fixed.value.peer ≡ near.peer },
@@ -180,7 +180,7 @@ impl<'a, L: Link + Drop, A: App<S>, S: Spill + Send + Drop> Channel<'a, L, A, S>
             .near
             .read(self.alloc, now, room, &mut self.state, spills);
         let about = (Snapshot::of(&self.acts), Snapshot::of(&entry));
-        self.acts = tell::<_, _, AddsLeft>(&about);
+        self.acts = note::<_, _, AddsLeft>(&about);
         acted
     }
 
@@ -197,7 +197,7 @@ impl<'a, L: Link + Drop, A: App<S>, S: Spill + Send + Drop> Channel<'a, L, A, S>
     {
         let (acted, entry) = self.near.drain(now, room, &mut self.state);
         let about = (Snapshot::of(&self.acts), Snapshot::of(&entry));
-        self.acts = tell::<_, _, AddsLeft>(&about);
+        self.acts = note::<_, _, AddsLeft>(&about);
         acted
     }
 
@@ -214,7 +214,7 @@ impl<'a, L: Link + Drop, A: App<S>, S: Spill + Send + Drop> Channel<'a, L, A, S>
     {
         let (acted, entry) = self.near.check_idle(now, room, &mut self.state);
         let about = (Snapshot::of(&self.acts), Snapshot::of(&entry));
-        self.acts = tell::<_, _, AddsLeft>(&about);
+        self.acts = note::<_, _, AddsLeft>(&about);
         acted
     }
 
@@ -257,7 +257,7 @@ impl<'a, L: Link + Drop, A: App<S>, S: Spill + Send + Drop> Channel<'a, L, A, S>
         } = turned;
         self.writing = writing;
         let about = (Snapshot::of(&self.acts), Snapshot::of(&entry));
-        self.acts = tell::<_, _, AddsRight>(&about);
+        self.acts = note::<_, _, AddsRight>(&about);
         progress
     }
 

@@ -6,7 +6,7 @@ use Rattle.chunk_body.specs.Verdicts.{IsOpen, IsWhole, IsRefused}
 use Rattle.chunk_body.specs.Reading.{has_ended, Reading, reads, advance, given, gives, is_last}
 use Rattle.chunk_body.specs.Reading.{decodes, is_refused, fresh, Reads}
 use Rattle.chunk_body.specs.Pieces.{ReadsPiece}
-use Rattle.chunk_body.specs.Answers.{read_of, Tells, Decides, IsFed, most_of}
+use Rattle.chunk_body.specs.Answers.{read_of, Notes, Decides, IsFed, most_of}
 use Rattle.chunk_body.specs.Bodies.{whole, partial, body_at, coded}
 use Rattle.chunk_body.proofs.Choices.{by_cond}
 use Rattle.chunk_body.proofs.BodyLaws.{coded_read, coded_goes_on, going_body, taken_some}
@@ -86,7 +86,7 @@ goes_on fed.NoMemory piece got old new p mb mt wire body r =
     (subst (λ b. Reads mb mt old wire b) (sym (ap (λ g. body ++ g) p.1 ∙ append-nil body)) r))
 
 pub tells : (f : Fed) (piece got : List ℕ) (old new : Reading) → ReadsPiece f piece old new got →
-    (mb mt : ℕ) (wire body : List ℕ) → Reads mb mt old wire body → Tells f mb mt wire body piece got
+    (mb mt : ℕ) (wire body : List ℕ) → Reads mb mt old wire body → Notes f mb mt wire body piece got
 tells fed.More piece got old new p mb mt wire body r =
     opens mb mt new (wire ++ piece) (body ++ got) (goes_on fed.More piece got old new p mb mt wire
     body r) p.0

@@ -8,7 +8,7 @@ use Rattle.chunk_body.specs.Reading.{limited, is_last, is_last_of_trailer, line_
 use Rattle.chunk_body.specs.Reading.{reads, decodes, is_refused, fresh}
 use Rattle.chunk_body.specs.Verdicts.{large, wrong, long, late}
 use Rattle.chunk_body.proofs.Places.{IsRefused, Because}
-use Rattle.chunk_body.specs.Answers.{Tells, IsNoMemory}
+use Rattle.chunk_body.specs.Answers.{Notes, IsNoMemory}
 use Rattle.chunk_body.specs.Verdicts.{IsOpen as Open, IsWhole as Whole, IsRefused as Ends}
 use Rattle.chunk_body.proofs.Standing.{open_from, whole_from, refused_from, same_before}
 use Rattle.chunk_body.proofs.Finishing.{wrong as is_wrong}
@@ -238,7 +238,7 @@ done_place mb mt n wire body piece got w = ap (λ (r : Reading). r.place)
 
 -- only one answer is right, and only one list of data
 pub one_answer : (mb mt : ℕ) (wire body piece got other : List ℕ) (f g : Fed) →
-    Tells f mb mt wire body piece got → Tells g mb mt wire body piece other → (IsNoMemory f → ⊥) →
+    Notes f mb mt wire body piece got → Notes g mb mt wire body piece other → (IsNoMemory f → ⊥) →
     (IsNoMemory g → ⊥) → (f ≡ g) × (got ≡ other)
 one_answer mb mt wire body piece got other fed.More fed.More t u m n = (
   refl,

@@ -25,14 +25,14 @@ read_of (Bad refusal) piece = piece
 read_of NoMemory piece = []
 
 -- What it says of all bytes so far.
-abbrev pub Tells : Fed → ℕ → ℕ → List ℕ → List ℕ → List ℕ → List ℕ → Type 0
-Tells More max_body max_trailer wire body piece got =
+abbrev pub Notes : Fed → ℕ → ℕ → List ℕ → List ℕ → List ℕ → List ℕ → Type 0
+Notes More max_body max_trailer wire body piece got =
     IsOpen max_body max_trailer (wire ++ piece) (body ++ got)
-Tells (Done n) max_body max_trailer wire body piece got = (n ≤ length piece)
+Notes (Done n) max_body max_trailer wire body piece got = (n ≤ length piece)
     × IsWhole max_body max_trailer (wire ++ take n piece) (body ++ got)
-Tells (Bad refusal) max_body max_trailer wire body piece got =
+Notes (Bad refusal) max_body max_trailer wire body piece got =
     IsRefused max_body max_trailer (wire ++ piece) (body ++ got) refusal
-Tells NoMemory max_body max_trailer wire body piece got = got ≡ []
+Notes NoMemory max_body max_trailer wire body piece got = got ≡ []
 
 -- What stands at the front of them, where they were a part of a body before.
 abbrev pub Decides : Fed → ℕ → ℕ → List ℕ → List ℕ → List ℕ → List ℕ → Type 0
@@ -51,7 +51,7 @@ pub record IsFed (answer : Fed) (piece got : List ℕ) (old new : Reading) : Typ
       Reads max_body max_trailer old wire body → Reads max_body max_trailer new
       (wire ++ read_of answer piece) (body ++ got)
   pub tells : (max_body max_trailer : ℕ) (wire body : List ℕ) →
-      Reads max_body max_trailer old wire body → Tells answer max_body max_trailer wire body piece
+      Reads max_body max_trailer old wire body → Notes answer max_body max_trailer wire body piece
       got
   pub decides : (max_body max_trailer : ℕ) (wire content : List ℕ) →
       Reads max_body max_trailer old wire content → coded max_body max_trailer wire

@@ -2,7 +2,7 @@
 ghost use Rattle.std.specs.Prelude.{◌≡◌, ◌<◌, ◌⊎◌, List, ℕ, ◌++◌, [], length};
 ghost use Rattle.chunk_body.specs.Coded.{IsCoded, IsLast, BeginsWithChunk};
 ghost use Rattle.chunk_body.specs.Bodies.{Body, partial, coded, IsFront, IsSettled, LiesWithin};
-ghost use Rattle.chunk_body.specs.Answers.{Tells, IsNoMemory};
+ghost use Rattle.chunk_body.specs.Answers.{Notes, IsNoMemory};
 ghost use Rattle.chunk_body.specs.declared.chunks.Fed.{Fed};
 
 /// A coded body is one without chunks, or a chunk and a coded body.
@@ -23,8 +23,8 @@ pub fn one_body()
 /// Of all bytes so far one answer is right, with one list of data.
 pub fn one_answer()
     ensures { (max_body max_trailer : ℕ) (wire body piece got other : List ℕ) (f g : Fed) →
-        Tells f max_body max_trailer wire body piece got →
-        Tells g max_body max_trailer wire body piece other → (IsNoMemory f → ⊥) →
+        Notes f max_body max_trailer wire body piece got →
+        Notes g max_body max_trailer wire body piece other → (IsNoMemory f → ⊥) →
         (IsNoMemory g → ⊥) → (f ≡ g) × (got ≡ other) }
 {}
 

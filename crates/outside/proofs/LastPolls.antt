@@ -7,7 +7,7 @@ use Rattle.outside.specs.Memory.{is_listed}
 use Rattle.outside.specs.MemNet.{PolledByPlan, stops_at}
 use Rattle.outside.specs.MemNetView.{last_of, found_of, poll_in, found_in}
 use Rattle.outside.specs.Net.{Poll}
-use Rattle.outside.specs.declared.mem_net.told.LastPoll.{LastPoll}
+use Rattle.outside.specs.declared.mem_net.noted.LastPoll.{LastPoll}
 use Rattle.outside.specs.declared.plans.Comer.{Comer}
 use Rattle.outside.specs.declared.plans.LinkPlan.{LinkPlan}
 use Rattle.outside.specs.declared.plans.NetPlan.{NetPlan}

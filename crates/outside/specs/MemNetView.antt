@@ -2,7 +2,7 @@
 use Rattle.std.specs.Prelude.{Option, None, Some}
 use Rattle.outside.specs.MemNet.{Found}
 use Rattle.outside.specs.Net.{Poll}
-use Rattle.outside.specs.declared.mem_net.told.LastPoll.{LastPoll}
+use Rattle.outside.specs.declared.mem_net.noted.LastPoll.{LastPoll}
 use Rattle.outside.specs.declared.plans.LinkPlan.{LinkPlan}
 
 -- what every net tells of a poll

@@ -4,9 +4,9 @@ ghost use Rattle.outside.specs.MemNet.{fresh, KeepsToNetPlan};
 ghost use Rattle.outside.specs.Moments.{NeverFalls};
 
 mod calls;
-mod told;
+mod noted;
 
-use crate::{Comer, Items, Listen, MemLink, NetPlan, NoMemory, Retired, Told, tell};
+use crate::{Comer, Items, Listen, MemLink, NetPlan, NoMemory, Noted, Retired, note};
 use std::alloc::Global;
 use std::collections::{LinkedList, VecDeque};
 use std::marker::Model;
@@ -25,14 +25,14 @@ pub struct MemNet {
     poll_fails: Items<u64>,
     accept_fails: Items<u64>,
     closed: Vec<Retired<MemLink>>,
-    given: Told<Accepted>,
+    given: Noted<Accepted>,
     accepted: u32,
     live: u64,
     stopped: bool,
-    bound: Told<Option<LinkedList<Listen>>>,
+    bound: Noted<Option<LinkedList<Listen>>>,
     polls: u64,
-    first: Told<Option<u64>>,
-    last: Told<Option<LastPoll>>,
+    first: Noted<Option<u64>>,
+    last: Noted<Option<LastPoll>>,
     asked: u64,
     put_off: u64,
     cleared: Snapshot<u64>,
@@ -134,14 +134,14 @@ impl MemNet {
             poll_fails,
             accept_fails,
             closed: Vec::new(alloc),
-            given: tell::<_, _, Nothing>(&()),
+            given: note::<_, _, Nothing>(&()),
             accepted: 0,
             live: 0,
             stopped: false,
-            bound: tell::<_, _, Nothing>(&()),
+            bound: note::<_, _, Nothing>(&()),
             polls: 0,
-            first: tell::<_, _, Nothing>(&()),
-            last: tell::<_, _, Nothing>(&()),
+            first: note::<_, _, Nothing>(&()),
+            last: note::<_, _, Nothing>(&()),
             asked: 0,
             put_off: 0,
             cleared: Snapshot::of(&0),

@@ -12,7 +12,7 @@ use crate::runs::read;
 use crate::state::State;
 use crate::types::{Limits, StreamFault, Unit};
 use crate::whole::start;
-use outside::{Spill, Spills, Tells, Told, tell};
+use outside::{Noted, Notes, Spill, Spills, note};
 use std::alloc::Global;
 use std::collections::LinkedList;
 use std::marker::Model;
@@ -23,20 +23,20 @@ type Input = LinkedList<(u64, u8)>;
 
 struct Nothing;
 
-impl Tells<(), Input> for Nothing {
+impl Notes<(), Input> for Nothing {
     ghost use Rattle.std.specs.Prelude.{[]};
 
-    ghost told = { λ _. [] };
+    ghost noted = { λ _. [] };
 }
 
 // What was told, and a piece behind it.
 struct More;
 
-impl<'a> Tells<(Snapshot<Told<Input>>, u64, &'a [u8]), Input> for More {
+impl<'a> Notes<(Snapshot<Noted<Input>>, u64, &'a [u8]), Input> for More {
     ghost use Rattle.std.specs.Prelude.{◌++◌};
     ghost use Rattle.request_stream.specs.Units.{stamped};
 
-    ghost told = { λ x. x.0.value.value ++ stamped x.1 x.2.now };
+    ghost noted = { λ x. x.0.value.value ++ stamped x.1 x.2.now };
 }
 
 /// What one connection asks for, from its bytes in any pieces.
@@ -44,7 +44,7 @@ impl<'a> Tells<(Snapshot<Told<Input>>, u64, &'a [u8]), Input> for More {
 pub struct Stream<S: Spill> {
     limits: Limits,
     state: State<S>,
-    fed: Told<Input>,
+    fed: Noted<Input>,
 }
 
 impl<S: Spill> Model for Stream<S> {
@@ -79,7 +79,7 @@ impl<S: Spill + Drop> Stream<S> {
         Stream {
             limits,
             state: start(alloc),
-            fed: tell::<_, _, Nothing>(&()),
+            fed: note::<_, _, Nothing>(&()),
         }
     }
 
@@ -116,7 +116,7 @@ impl<S: Spill + Drop> Stream<S> {
     {
         grammar();
         let about = (Snapshot::of(&self.fed), now, piece);
-        self.fed = tell::<_, _, More>(&about);
+        self.fed = note::<_, _, More>(&about);
         let limits = self.limits;
         read(alloc, &limits, &mut self.state, now, piece, spills)
     }

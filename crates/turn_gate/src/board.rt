@@ -2,7 +2,7 @@
 //! has the state while the word is free, and it is out with the end that has the turn.
 use crate::pact::Pact;
 use atomic_table::{Seat, Shared, Table, TableRule};
-use outside::Told;
+use outside::Noted;
 use std::alloc::Global;
 use std::collections::LinkedList;
 use std::marker::PhantomData;
@@ -22,7 +22,7 @@ pub(crate) struct Entries<L, R> {
 #[derive(Drop)]
 pub(crate) struct Shelf<S, L, R> {
     pub(crate) state: Box<S>,
-    pub(crate) entries: Told<Entries<L, R>>,
+    pub(crate) entries: Noted<Entries<L, R>>,
 }
 
 /// Which end a seat is. Until the gate is split there is one seat, whose slot is first vacant, then

@@ -6,7 +6,7 @@ use crate::board::{Board, FREE, HELD, Place, Shelf};
 use crate::pact::Pact;
 use crate::plays::{ByLeft, Finish, Take};
 use crate::turn::Turn;
-use outside::tell;
+use outside::note;
 use std::alloc::Global;
 use std::marker::Model;
 use std::snapshot::Snapshot;
@@ -63,7 +63,7 @@ impl<P: Pact> Left<P> {
     {
         let Turn { state, of: _ } = turn;
         let about = (Snapshot::of(&self.place), Snapshot::of(&entry));
-        let entries = tell::<_, _, ByLeft>(&about);
+        let entries = note::<_, _, ByLeft>(&about);
         let shelf = Shelf { state, entries };
         let shared = &self.board.shared;
         drop(shared.exchange(&mut self.place, 0, Some(shelf)));

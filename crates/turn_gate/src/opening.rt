@@ -10,7 +10,7 @@ use crate::pact::Pact;
 use crate::plays::{Begin, Fill, Halves, NoEntries};
 use crate::right_end::Right;
 use atomic_table::{Shared, Table};
-use outside::tell;
+use outside::note;
 use std::alloc::{AllocFailed, Global};
 use std::snapshot::Snapshot;
 use std::sync::Arc;
@@ -28,7 +28,7 @@ fn fill<P: Pact>(
     ensures right { IsNew result place.old.table_id AtRight (P.fixed state.value) }
 {
     shared.load::<Begin>(place, 0);
-    let entries = tell::<_, _, NoEntries>(&());
+    let entries = note::<_, _, NoEntries>(&());
     let shelf = Shelf { state, entries };
     drop(shared.exchange(place, 0, Some(shelf)));
     shared.store::<Fill>(place, 0, FREE);

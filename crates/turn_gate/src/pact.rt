@@ -2,7 +2,7 @@
 ghost use Rattle.std.specs.Prelude.{List};
 
 /// A state that two ends change in turns. An entry says what one turn did. It is for clauses alone,
-/// so let it be of no bytes: an `outside::Told`, or a struct of `Snapshot`s.
+/// so let it be of no bytes: an `outside::Noted`, or a struct of `Snapshot`s.
 pub trait Pact {
     type State: Send + Drop;
 

@@ -5,7 +5,7 @@ ghost use Rattle.turn_gate.specs.Gate.{took, began, filled, ended, looked, left_
 use crate::board::{Entries, Shelf, View};
 use crate::pact::Pact;
 use atomic_table::{Play, Seat, Split};
-use outside::Tells;
+use outside::Notes;
 use std::marker::PhantomData;
 use std::snapshot::Snapshot;
 
@@ -55,21 +55,21 @@ impl<L, R, F> Split<View<L, R, F>> for Halves {
 /// The entries, before any turn.
 pub(crate) struct NoEntries;
 
-impl<L, R> Tells<(), Entries<L, R>> for NoEntries {
-    ghost told = { λ _. record { left = []; right = [] } };
+impl<L, R> Notes<(), Entries<L, R>> for NoEntries {
+    ghost noted = { λ _. record { left = []; right = [] } };
 }
 
 /// The entries with one more of the left end's, whose seat it is.
 pub(crate) struct ByLeft;
 
-impl<S, L, R, F> Tells<
+impl<S, L, R, F> Notes<
     (
         Snapshot<Seat<Option<Shelf<S, L, R>>, View<L, R, F>>>,
         Snapshot<L>,
     ),
     Entries<L, R>,
 > for ByLeft {
-    ghost told = { λ x. record {
+    ghost noted = { λ x. record {
       left = x.0.value.me.0.left ++ x.1.value ∷ [];
       right =
           x.0.value.me.0.right;
@@ -78,14 +78,14 @@ impl<S, L, R, F> Tells<
 
 pub(crate) struct ByRight;
 
-impl<S, L, R, F> Tells<
+impl<S, L, R, F> Notes<
     (
         Snapshot<Seat<Option<Shelf<S, L, R>>, View<L, R, F>>>,
         Snapshot<R>,
     ),
     Entries<L, R>,
 > for ByRight {
-    ghost told = { λ x. record {
+    ghost noted = { λ x. record {
       left = x.0.value.me.0.left;
       right =
           x.0.value.me.0.right ++ x.1.value ∷ [];

@@ -6,7 +6,7 @@ use crate::board::{Board, FREE, HELD, Place, Shelf};
 use crate::pact::Pact;
 use crate::plays::{ByRight, Finish, Look, Take};
 use crate::turn::Turn;
-use outside::tell;
+use outside::note;
 use std::alloc::Global;
 use std::marker::Model;
 use std::snapshot::Snapshot;
@@ -64,7 +64,7 @@ impl<P: Pact> Right<P> {
     {
         let Turn { state, of: _ } = turn;
         let about = (Snapshot::of(&self.place), Snapshot::of(&entry));
-        let entries = tell::<_, _, ByRight>(&about);
+        let entries = note::<_, _, ByRight>(&about);
         let shelf = Shelf { state, entries };
         let shared = &self.board.shared;
         drop(shared.exchange(&mut self.place, 0, Some(shelf)));

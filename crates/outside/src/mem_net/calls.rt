@@ -11,11 +11,11 @@ ghost use Rattle.outside.specs.Moments.{moment_at};
 ghost use Rattle.outside.specs.Net.{Polls, Accepts, AcceptCause, TakesKey, asked_of, last_moment};
 
 use super::MemNet;
-use super::told::{Addresses, FirstMoment, Latest, OneMore, Seen};
+use super::noted::{Addresses, FirstMoment, Latest, OneMore, Seen};
 use crate::fails::next_fails;
 use crate::{
     Answers, Comer, End, Failed, Items, Listen, MemLink, Net, NetFault, NetPlan, Peer, Retired,
-    Turn, Want, answer_all, tell,
+    Turn, Want, answer_all, note,
 };
 use std::alloc::Global;
 use std::collections::VecDeque;
@@ -107,7 +107,7 @@ impl Net for MemNet {
             self.bind_faults = self.bind_faults.saturating_add(1);
             return Err(Failed);
         }
-        self.bound = tell::<_, _, Addresses>(&listen);
+        self.bound = note::<_, _, Addresses>(&listen);
         Ok(())
     }
 
@@ -143,8 +143,8 @@ impl Net for MemNet {
             come: comes(accepting, &self.waiting, self.polls),
         };
         self.stopped = turn.stop;
-        self.first = tell::<_, _, FirstMoment>(&(Snapshot::of(&self.first), turn.now));
-        self.last = tell::<_, _, Latest>(&Seen {
+        self.first = note::<_, _, FirstMoment>(&(Snapshot::of(&self.first), turn.now));
+        self.last = note::<_, _, Latest>(&Seen {
             wants: Snapshot::of(wants),
             accepting,
             turn,
@@ -190,7 +190,7 @@ impl Net for MemNet {
             peer,
             plan,
         } = comer;
-        self.given = tell::<_, _, OneMore>(&(Snapshot::of(&self.given), &peer, &plan));
+        self.given = note::<_, _, OneMore>(&(Snapshot::of(&self.given), &peer, &plan));
         let link = MemLink::open(alloc, self.accepted, now, plan, arrivals);
         self.accepted += 1;
         self.live += 1;

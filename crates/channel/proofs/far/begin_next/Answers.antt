@@ -6,7 +6,7 @@ use Rattle.channel.proofs.far.begin_next.Goals as goal
 pub returns-in-Ok-clause-turns : goal.returns-in-Ok-clause-turns
 returns-in-Ok-clause-turns g c = right_begins _ _ _ _ _ _ _ c.in-Some.unit _ c.requires.alive
     c.requires.idle (search rules) (search rules) (search rules)
-    (search rules) _ c.tell-began.ensures
+    (search rules) _ c.note-began.ensures
 
 pub returns-in-Err-clause-turns : goal.returns-in-Err-clause-turns
 returns-in-Err-clause-turns g c = right_begins_none _ _ _ _ _ _

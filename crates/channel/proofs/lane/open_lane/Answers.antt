@@ -9,7 +9,7 @@ pub invariant_of-channel : goal.invariant_of-channel
 invariant_of-channel g c =
     let story = c.new.ensures.stream in
     let state = c.new-2.ensures in
-    let fixed = c.tell-fixed.ensures in
+    let fixed = c.note-fixed.ensures in
     let link : IsTrue g.L.Link.tells → g.L.Link.state c.new.result.link ≡ opened c.args.now =
     λ t. ap g.L.Link.state c.new.ensures.link ∙ c.requires.fresh t in
     record {
@@ -22,11 +22,11 @@ invariant_of-channel g c =
       sound = c.requires.sound;
       positive = search rules;
       usable = search rules;
-      agrees = agrees_at _ _ (ap (λ a. a.left) c.tell.ensures)
-          (ap (λ a. a.right) c.tell.ensures) _ _ c.tell-fixed.result c.new-output.result state
+      agrees = agrees_at _ _ (ap (λ a. a.left) c.note.ensures)
+          (ap (λ a. a.right) c.note.ensures) _ _ c.note-fixed.result c.new-output.result state
           (ap (λ b. b.bytes) c.new-output.ensures);
-      keeps = keeps_at _ _ (ap (λ a. a.left) c.tell.ensures)
-          (ap (λ a. a.right) c.tell.ensures) _ _ _ _
+      keeps = keeps_at _ _ (ap (λ a. a.left) c.note.ensures)
+          (ap (λ a. a.right) c.note.ensures) _ _ _ _
           (opened_side _ _ _ (side_of (linked g.L.Link.tells g.L.Link.state g.L.Link.faults
           g.L.Link.key g.L.Link.plan) (known_by g.P.Spill.Spill.tells g.A.App.tells
           g.A.App.script g.P.Spill.Spill.faults g.A.Run.AppRun.faults
@@ -40,6 +40,6 @@ invariant_of-channel g c =
           ∙ sym (ap (λ (s : LinkState). s.touched) (link t))));
       answers = opened_answers _ _ (ap (λ s. s.dead) state);
       settled = refl;
-      writes = writes_at _ _ (ap (λ a. a.left) c.tell.ensures)
-          (ap (λ a. a.right) c.tell.ensures) _ _ _ _ _;
+      writes = writes_at _ _ (ap (λ a. a.left) c.note.ensures)
+          (ap (λ a. a.right) c.note.ensures) _ _ _ _ _;
     }

@@ -18,6 +18,6 @@ returns-clause-turns g c =
           (known_by g.S.Spill.tells g.A.App.tells g.A.App.script g.S.Spill.faults
           g.A.Run.AppRun.faults g.A.Run.AppRun.spill_faults) c.args.self.now)
           c.spill_of.result _ c.bury-run.result.0 _ spill c.bury-run.ensures.run)
-          c.tell.ensures;
+          c.note.ensures;
       same = record { window = refl; peer = refl; key = refl; plan = refl };
     }

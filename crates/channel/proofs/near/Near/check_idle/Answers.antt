@@ -38,7 +38,7 @@ returns-clause-turns g c =
     let window : near.window.timeout ≡ mid.fixed.value.window.timeout
     = ap (λ w. w.timeout) (c.send_some-moved.ensures.turns.same.window ∙ c.requires.window)
     ∙ ap (λ f. f.value.window.timeout) (sym c.send_some-moved.ensures.turns.side.fixed) in
-    let told : c.tell.result.value ≡ c.send_some-moved.result.1.value ++ c.kill-ends.result.value =
+    let told : c.note.result.value ≡ c.send_some-moved.result.1.value ++ c.kill-ends.result.value =
     search rules in
     record {
       side = left_then _ _ _ _ _ _ _ _ c.kill-ends.result _ told
@@ -67,11 +67,11 @@ returns-clause-calls g c = λ l r left.
     let mid = c.send_some-moved.new.state in
     let yes' : c.is_timed_out.result ≡ true = search rules in
     let was_late = c.is_timed_out.ensures.late yes' in
-    let told : c.tell.result.value ≡ c.send_some-moved.result.1.value ++ c.kill-ends.result.value =
+    let told : c.note.result.value ≡ c.send_some-moved.result.1.value ++ c.kill-ends.result.value =
     search rules in
     check_late _ _ _ _ _ _ (c.send_some-moved.ensures.says l r left) _
     (view_dies (linked g.L.Link.tells g.L.Link.state g.L.Link.faults g.L.Link.key g.L.Link.plan)
     near (state_of mid) (state_of c.kill-ends.new.state) l r left c.send_some-moved.result.1
-    c.kill-ends.result c.tell.result c.args.now told c.kill-ends.ensures.now
+    c.kill-ends.result c.note.result c.args.now told c.kill-ends.ensures.now
     c.kill-ends.ensures.told)
     (c.is_timed_out.ensures.open yes') (rw c.send_some-moved.ensures.turns.same.window at was_late)

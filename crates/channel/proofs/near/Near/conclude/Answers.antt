@@ -11,18 +11,18 @@ use Rattle.channel.proofs.near.Near.conclude.Goals as goal
 
 pub returns-clause-turns : goal.returns-clause-turns
 returns-clause-turns g c = λ before was first.
-    let told : c.tell.result.value ≡ c.args.entry.value ++ c.bury-buried.result.value =
+    let told : c.note.result.value ≡ c.args.entry.value ++ c.bury-buried.result.value =
     search rules in
     left_then _ _ _ _ _ _ _ _ _ _ told first c.bury-buried.ensures.turns.side
 
 pub returns-clause-concludes : goal.returns-clause-concludes
 returns-clause-concludes g c = λ l r left.
-    let told : c.tell.result.value ≡ c.args.entry.value ++ c.bury-buried.result.value =
+    let told : c.note.result.value ≡ c.args.entry.value ++ c.bury-buried.result.value =
     search rules in
     concludes_then (linked g.L.Link.tells g.L.Link.state g.L.Link.faults g.L.Link.key g.L.Link.plan)
     c.args.self.now c.bury-buried.new.self (state_of c.args.state.now)
     (state_of c.bury-buried.new.state) l r left
-    c.args.entry c.bury-buried.result c.tell.result told
+    c.args.entry c.bury-buried.result c.note.result told
     (c.bury-buried.ensures.concludes (left_turn l c.args.entry) r left)
 
 pub returns-clause-over : goal.returns-clause-over

@@ -8,7 +8,7 @@ use Rattle.channel.proofs.near.Near.send_lent.Goals as goal
 
 pub returns-in-Took-clause-turns : goal.returns-in-Took-clause-turns
 returns-in-Took-clause-turns g c =
-    let told : c.tell-entry.result.value ≡ Drained (take c.in-Took.count
+    let told : c.note-entry.result.value ≡ Drained (take c.in-Took.count
     c.lent-bytes.result.now) ∷ [] =
     search rules in
     record {

@@ -8,7 +8,7 @@ use Rattle.channel.proofs.near.Near.send_stored.Goals as goal
 
 pub returns-in-Took-clause-turns : goal.returns-in-Took-clause-turns
 returns-in-Took-clause-turns g c =
-    let told : c.tell.result.value ≡ Drained (take c.in-Took.taken c.offer.new.into) ∷ [] =
+    let told : c.note.result.value ≡ Drained (take c.in-Took.taken c.offer.new.into) ∷ [] =
     search rules in
     record {
       side = drains_of _ _ _ (state_of c.args.state.now) (state_of c.offer.new.self)

@@ -12,7 +12,7 @@ pub returns-in-Ok-put-clause-turns : goal.returns-in-Ok-put-clause-turns
 returns-in-Ok-put-clause-turns g c = λ link came.
     let fed : c.feed.new.self.fed ≡ c.args.self.now.stream.fed
     ++ stamped c.args.now c.args.piece.now = search rules in
-    let told : c.tell-puts.result.value ≡ Put c.in-Ok.units.items c.feed.new.self.held ∷ [] =
+    let told : c.note-puts.result.value ≡ Put c.in-Ok.units.items c.feed.new.self.held ∷ [] =
     search rules in
     record {
       side = left_puts _ _ _ _ _ _ c.requires.alive refl refl c.in-Ok.units.items c.requires.open
@@ -28,10 +28,10 @@ returns-in-Ok-put-clause-turns g c = λ link came.
 
 pub returns-in-Ok-put-clause-hears : goal.returns-in-Ok-put-clause-hears
 returns-in-Ok-put-clause-hears g c = λ link came l r left.
-    let told : c.tell-puts.result.value ≡ Put c.in-Ok.units.items c.feed.new.self.held ∷ [] =
+    let told : c.note-puts.result.value ≡ Put c.in-Ok.units.items c.feed.new.self.held ∷ [] =
     search rules in
     record {
-      shown = shown_puts (state_of c.args.state.now) (state_of c.put.new.self) c.tell-puts.result l
+      shown = shown_puts (state_of c.args.state.now) (state_of c.put.new.self) c.note-puts.result l
           r left c.args.self.now.stream c.feed.new.self c.args.self.now.ended
           c.args.self.now.touched c.args.now c.in-Ok.units.items c.feed.new.self.held
           c.in-Ok-put.ensures.put told;

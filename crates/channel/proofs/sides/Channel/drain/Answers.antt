@@ -9,13 +9,13 @@ use Rattle.channel.proofs.sides.Channel.drain.Goals as goal
 pub returns-clause-calls : goal.returns-clause-calls
 returns-clause-calls g c =
     let old = c.args.self.now in
-    let lefts : c.tell.result.value.left ≡ old.acts.value.left ++ c.drain-acted.result.1 ∷ [] =
+    let lefts : c.note.result.value.left ≡ old.acts.value.left ++ c.drain-acted.result.1 ∷ [] =
     search rules in
-    let rights : c.tell.result.value.right ≡ old.acts.value.right = search rules in
+    let rights : c.note.result.value.right ≡ old.acts.value.right = search rules in
     called (λ w a b. DrainCalls g.L.Link.tells c.args.now w c.drain-acted.result.0 a b)
     (linked g.L.Link.tells g.L.Link.state g.L.Link.faults g.L.Link.key g.L.Link.plan)
     old.near c.drain-acted.new.self (state_of old.state)
     (state_of c.drain-acted.new.state) c.drain-acted.result.1 old.acts.value.left
-    c.tell.result.value.left old.acts.value.right c.tell.result.value.right
+    c.note.result.value.left old.acts.value.right c.note.result.value.right
     (steps_left g.A.Run.AppRun.left old.writing) old.near.window old.state.fixed.value.window
     c.drain-acted.ensures.calls lefts rights old.window_is

@@ -8,15 +8,15 @@ use Rattle.request_stream.proofs.stream.Stream.feed.Goals as goal
 
 pub returns-clause-fed : goal.returns-clause-fed
 returns-clause-fed g c =
-    c.tell.ensures ∙ (ap (λ t. t.value ++ stamped c.args.now c.args.piece.now) c.of.ensures
+    c.note.ensures ∙ (ap (λ t. t.value ++ stamped c.args.now c.args.piece.now) c.of.ensures
     ∙ ap (λ (s : Story). s.fed ++ stamped c.args.now c.args.piece.now) c.self.view_is)
 
 pub returns-clause-units : goal.returns-clause-units
 returns-clause-units g c =
     adds_of c.grammar.ensures (λ us. us.items) c.read.result c.args.self.now _ c.self.inside.limits
-    c.self.inside.state _ c.self.inside.fed.value c.tell.result.value _ c.self.view_is
+    c.self.inside.state _ c.self.inside.fed.value c.note.result.value _ c.self.view_is
     c.self.invariant.positive.head
-    (c.tell.ensures ∙ ap (λ t. t.value ++ stamped c.args.now c.args.piece.now) c.of.ensures)
+    (c.note.ensures ∙ ap (λ t. t.value ++ stamped c.args.now c.args.piece.now) c.of.ensures)
     c.self.invariant.read c.read.ensures.reads
 
 pub returns-clause-last : goal.returns-clause-last
@@ -31,8 +31,8 @@ invariant_of-self g c = record {
   sound = c.read.ensures.sound;
   read =
       read_of c.grammar.ensures (λ us. map asks us.items) c.read.result _ c.self.inside.limits
-      c.self.inside.state c.read.new.state c.self.inside.fed.value c.tell.result.value _
-      (c.tell.ensures ∙ ap (λ t. t.value ++ stamped c.args.now c.args.piece.now) c.of.ensures)
+      c.self.inside.state c.read.new.state c.self.inside.fed.value c.note.result.value _
+      (c.note.ensures ∙ ap (λ t. t.value ++ stamped c.args.now c.args.piece.now) c.of.ensures)
       c.self.invariant.read c.read.ensures.reads c.read.ensures.kept c.read.ensures.fault;
 }
 

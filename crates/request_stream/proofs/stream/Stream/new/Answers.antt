@@ -7,7 +7,7 @@ pub invariant_of-result : goal.invariant_of-result
 invariant_of-result g c = record {
   positive = c.requires;
   sound = λ _. c.start.ensures.sound c.args.limits c.requires.head;
-  read = λ _. subst (HasRead g.S.Spill.tells c.args.limits c.start.result) (sym c.tell.ensures)
+  read = λ _. subst (HasRead g.S.Spill.tells c.args.limits c.start.result) (sym c.note.ensures)
       (read_none c.grammar.ensures _ c.args.limits c.start.result c.requires.head
       c.start.ensures.goes);
 }

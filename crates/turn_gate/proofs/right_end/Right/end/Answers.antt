@@ -7,7 +7,7 @@ store-requires g c = let state = ap (λ t. t.state) c.turn.view_is in (
   search rules,
   search rules,
   ends_right g.P.Pact.agree g.P.Pact.fixed _ _ _ c.self.inside.place _ record
-      { state = c.turn.inside.state; entries = c.tell-entries.result } c.args.entry _ c.self.view_is
+      { state = c.turn.inside.state; entries = c.note-entries.result } c.args.entry _ c.self.view_is
       c.self.invariant.3 c.self.invariant.4
       (search rules) c.requires.own.1 (search rules) (ap g.P.Pact.fixed state ∙ c.requires.fixed)
       (subst (λ (z : g.row.P-State.Denot). g.P.Pact.agree z c.args.self.now.found

@@ -41,8 +41,8 @@ invariant_of-self-2 c =
     let rest : c.remove.new.self.items ≡ remove waiting at = c.in-Some-remove.ensures.items in
     let shorter : length c.remove.new.self.items + 1 ≡ length waiting =
     rw rest (length-remove waiting at within) in
-    let given : c.tell.result.value ≡ old_given ++ seat_of comer ∷ [] =
-    rw (← c.of-2.ensures) c.tell.ensures in
+    let given : c.note.result.value ≡ old_given ++ seat_of comer ∷ [] =
+    rw (← c.of-2.ensures) c.note.ensures in
     let longer = length-append old_given (seat_of comer ∷ []) in
     record {
       plan = i.plan;
@@ -73,7 +73,7 @@ returns-clause-told c =
     due_within waiting _ c.in-Some.at c.in-Some-remove.comer (sym c.in-Some.ensures) in
     rw (← c.self.view_is) (record {
       state = rw (
-        c.tell.ensures,
+        c.note.ensures,
         c.of-2.ensures,
         c.next_fails.ensures.counted,
         c.reserve.ensures.items,

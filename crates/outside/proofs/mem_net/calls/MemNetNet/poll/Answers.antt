@@ -5,7 +5,7 @@ use Rattle.outside.specs.MemNet.{PolledByPlan}
 use Rattle.outside.specs.MemNetView.{found_in, poll_in}
 use Rattle.outside.specs.Net.{Poll}
 use Rattle.outside.specs.declared.plans.LinkPlan.{LinkPlan}
-use Rattle.outside.specs.declared.mem_net.told.LastPoll.{LastPoll}
+use Rattle.outside.specs.declared.mem_net.noted.LastPoll.{LastPoll}
 use Rattle.outside.proofs.LastPolls.{first_moment, still_begun, of_last, by_plan}
 use Rattle.outside.proofs.mem_net.calls.MemNetNet.poll.Goals as goal
 
@@ -21,8 +21,8 @@ invariant_of-self-2 c =
       number = c.self.inside.polls;
       waiting = c.self.inside.waiting.items;
     } in
-    let told : c.tell-2.result.value ≡ Some p =
-    rw (← c.of-2.ensures, ← c.of-3.ensures, ← c.of-4.ensures) c.tell-2.ensures in
+    let told : c.note-2.result.value ≡ Some p =
+    rw (← c.of-2.ensures, ← c.of-3.ensures, ← c.of-4.ensures) c.note-2.ensures in
     let moments = c.self.inside.plan.value.moments in
     let listed : is_listed moments c.moment_of.result ≡ true =
     rw i.plan.moments c.moment_of.ensures.listed in
@@ -39,8 +39,8 @@ invariant_of-self-2 c =
     let rises = i.plan.rising.later c.self.inside.polls c.next_fails.new.calls
     (omega (arith, c.next_fails.ensures.counted)) in
     let old_first = c.self.inside.first.value in
-    let first_told : c.tell.result.value ≡ Some (unwrap_or old_first c.moment_of.result) =
-    rw (← c.of.ensures) c.tell.ensures in
+    let first_told : c.note.result.value ≡ Some (unwrap_or old_first c.moment_of.result) =
+    rw (← c.of.ensures) c.note.ensures in
     record {
       plan = i.plan;
       few = i.few;

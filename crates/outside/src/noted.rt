@@ -8,41 +8,41 @@ use std::marker::{Model, PhantomData};
 
 /// How a `T` for contracts is made of an `X` of the program. An empty struct stands for each such
 /// function, and its impl has the function's body.
-pub trait Tells<X, T> {
+pub trait Notes<X, T> {
     /// The value, of what the reference shows.
-    ghost told: { X → T };
+    ghost noted: { X → T };
 }
 
 /// A `T` as clauses see it. It has no bytes and owns nothing, as std's `Snapshot`, but no `T` need
 /// ever have been made.
-pub struct Told<T> {
+pub struct Noted<T> {
     marker: PhantomData<T>,
     pub ghost value: { T },
 }
 
-impl<T> Model for Told<T> {
+impl<T> Model for Noted<T> {
     ghost use base.Fml.{ftrue};
 
     ghost also_owns = { λ _. ftrue };
 }
 
-impl<T> Drop for Told<T> {
+impl<T> Drop for Noted<T> {
     fn drop(self) {
         let Self { marker: _ } = self;
     }
 }
 
-unsafe impl<T> Send for Told<T> {}
+unsafe impl<T> Send for Noted<T> {}
 
-unsafe impl<T> Sync for Told<T> {}
+unsafe impl<T> Sync for Noted<T> {}
 
 /// The value that `M` tells of `x`. To add to a value that is told already, let `x` be a pair of
 /// its `Snapshot` and of what is added.
-pub fn tell<X, T, M: Tells<X, T>>(x: &X) -> Told<T>
-    ensures { result.value ≡ M.told x.now }
+pub fn note<X, T, M: Notes<X, T>>(x: &X) -> Noted<T>
+    ensures { result.value ≡ M.noted x.now }
 {
     let _ = x;
-    Told {
+    Noted {
         marker: PhantomData,
     }
 }

@@ -1,4 +1,4 @@
--- `tell` makes a value of no bytes, whose ghost field is what the trait tells of what the reference
+-- `note` makes a value of no bytes, whose ghost field is what the trait tells of what the reference
 -- shows.
 use mathlib.Core.Path.{refl, sym, subst}
 use Prim.Native.Nat.{ℕ}
@@ -33,11 +33,11 @@ use denote.Triple.Entry.{on_entry, alive, Res}
 use denote.Triple.Spec.{Meets, triple_of}
 use denote.Triple.Table.{entered}
 use denote.Triple.Walked.{says, Stays, stay_dropped, walk_of, ends_at, Goes-dropped, walk_Meets}
-use Rattle.outside.specs.declared.told.Tells.{Ghosts}
-use Rattle.outside.specs.contracts.told.tell.{ended, clauses}
-use Rattle.outside.specs.contracts.told.tell.Key.{name as #self}
-use Rattle.outside.proofs.told.tell.Statement.{statement}
-use Rattle.outside.proofs.told.tell.Code as code
+use Rattle.outside.specs.declared.noted.Notes.{Ghosts}
+use Rattle.outside.specs.contracts.noted.note.{ended, clauses}
+use Rattle.outside.specs.contracts.noted.note.Key.{name as #self}
+use Rattle.outside.proofs.noted.note.Statement.{statement}
+use Rattle.outside.proofs.noted.note.Code as code
 
 module _ (X T P : RattleType) (g : Ghosts P.Denot X.Denot T.Denot) (dict : Dict) where
   abbrev R : RattleType
@@ -86,7 +86,7 @@ module _ (X T P : RattleType) (g : Ghosts P.Denot X.Denot T.Denot) (dict : Dict)
         let v : Val = vstruct (vcons (vstruct vnil) vnil) in let r : Res
         (ended X T P g dict).signature z.0.0 = record {
           marker = record {};
-          value = g.told
+          value = g.noted
               z.0.3.0.now;
         } in
         let O : Fml = (type_at (ended X T P g dict).signature.result z.0.0).own_val r (v ∷ []) in

@@ -1,6 +1,6 @@
 //! What a net in memory keeps for contracts alone. None of it has bytes, and no value of the types
 //! here that hold lists is ever made.
-use crate::{Comer, LinkPlan, Listen, Peer, Tells, Told, Turn, Want};
+use crate::{Comer, LinkPlan, Listen, Noted, Notes, Peer, Turn, Want};
 use std::collections::{LinkedList, VecDeque};
 use std::snapshot::Snapshot;
 
@@ -21,55 +21,55 @@ pub(crate) struct LastPoll {
 // What is told of a net before any call.
 pub(crate) struct Nothing;
 
-impl Tells<(), Accepted> for Nothing {
+impl Notes<(), Accepted> for Nothing {
     ghost use Rattle.std.specs.Prelude.{[]};
 
-    ghost told = { λ _. [] };
+    ghost noted = { λ _. [] };
 }
 
-impl Tells<(), Option<LinkedList<Listen>>> for Nothing {
+impl Notes<(), Option<LinkedList<Listen>>> for Nothing {
     ghost use Rattle.std.specs.Prelude.{None};
 
-    ghost told = { λ _. None };
+    ghost noted = { λ _. None };
 }
 
-impl Tells<(), Option<u64>> for Nothing {
+impl Notes<(), Option<u64>> for Nothing {
     ghost use Rattle.std.specs.Prelude.{None};
 
-    ghost told = { λ _. None };
+    ghost noted = { λ _. None };
 }
 
-impl Tells<(), Option<LastPoll>> for Nothing {
+impl Notes<(), Option<LastPoll>> for Nothing {
     ghost use Rattle.std.specs.Prelude.{None};
 
-    ghost told = { λ _. None };
+    ghost noted = { λ _. None };
 }
 
 // Those given before, and one more.
 pub(crate) struct OneMore;
 
-impl<'a> Tells<(Snapshot<Told<Accepted>>, &'a Peer, &'a LinkPlan), Accepted> for OneMore {
+impl<'a> Notes<(Snapshot<Noted<Accepted>>, &'a Peer, &'a LinkPlan), Accepted> for OneMore {
     ghost use Rattle.std.specs.Prelude.{◌++◌, ◌∷◌, []};
 
-    ghost told = { λ x. x.0.value.value ++ (x.1.now, x.2.now) ∷ [] };
+    ghost noted = { λ x. x.0.value.value ++ (x.1.now, x.2.now) ∷ [] };
 }
 
 // The addresses of a bind.
 pub(crate) struct Addresses;
 
-impl<'a> Tells<&'a [Listen], Option<LinkedList<Listen>>> for Addresses {
+impl<'a> Notes<&'a [Listen], Option<LinkedList<Listen>>> for Addresses {
     ghost use Rattle.std.specs.Prelude.{Some};
 
-    ghost told = { λ listen. Some listen.now };
+    ghost noted = { λ listen. Some listen.now };
 }
 
 // The first moment that was told, or this one where there was none.
 pub(crate) struct FirstMoment;
 
-impl Tells<(Snapshot<Told<Option<u64>>>, u64), Option<u64>> for FirstMoment {
+impl Notes<(Snapshot<Noted<Option<u64>>>, u64), Option<u64>> for FirstMoment {
     ghost use Rattle.std.specs.Prelude.{Some, unwrap_or};
 
-    ghost told = { λ x. Some (unwrap_or x.0.value.value x.1) };
+    ghost noted = { λ x. Some (unwrap_or x.0.value.value x.1) };
 }
 
 // What a poll saw that answers a turn.
@@ -78,7 +78,7 @@ pub(crate) struct Seen {
     pub(crate) wants: Snapshot<Vec<Want>>,
     pub(crate) accepting: bool,
     pub(crate) turn: Turn,
-    pub(crate) given: Snapshot<Told<Accepted>>,
+    pub(crate) given: Snapshot<Noted<Accepted>>,
     pub(crate) live: u64,
     pub(crate) number: u64,
     pub(crate) waiting: Snapshot<VecDeque<Comer>>,
@@ -87,10 +87,10 @@ pub(crate) struct Seen {
 // That poll is the last one.
 pub(crate) struct Latest;
 
-impl Tells<Seen, Option<LastPoll>> for Latest {
+impl Notes<Seen, Option<LastPoll>> for Latest {
     ghost use Rattle.std.specs.Prelude.{Some};
 
-    ghost told = { λ seen. Some (record {
+    ghost noted = { λ seen. Some (record {
       wants = seen.wants.value.items;
       accepting = seen.accepting;
       turn = seen.turn;

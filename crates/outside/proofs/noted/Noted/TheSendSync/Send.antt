@@ -1,6 +1,6 @@
 use denote.RattleType.{RattleType}
 use denote.Param.Send.{IsSend}
-use Rattle.outside.specs.contracts.told.Told.{the_row}
+use Rattle.outside.specs.contracts.noted.Noted.{the_row}
 
 pub send : (T : RattleType) → IsSend (the_row T)
 send T = record {
