@@ -67,10 +67,10 @@ impl<L: Link + Drop, A: App<S>, S: Spill + Send + Drop> Near<L, A, S> {
     // Makes one recv.
     fn receive<P: Spills<Spill = S>>(
         &mut self,
-        alloc: Global,
         now: u64,
         room: &mut [u8],
         state: &mut Shared<A, A::Run, S>,
+        alloc: Global,
         spills: &mut P,
     ) -> (Moved, LeftEntry<S>)
         requires room { 0 < length room.old }
@@ -119,7 +119,7 @@ impl<L: Link + Drop, A: App<S>, S: Spill + Send + Drop> Near<L, A, S> {
         if state.dead.is_some() || !self.is_readable(state) {
             return (Moved::Idle, note::<_, _, Looked>(&()));
         }
-        self.receive(alloc, now, room, state, spills)
+        self.receive(now, room, state, alloc, spills)
     }
 
     /// Makes one recv, where more is to be taken in, and puts the units.

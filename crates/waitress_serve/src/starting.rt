@@ -177,10 +177,10 @@ pub(crate) fn run_words<W: Wait, N: Net, T: Tree, P: Spills, C: Sink>(
     rt: &W,
     alloc: Global,
     words: &[String],
+    out: &mut C,
     net: &mut N,
     tree: &mut T,
     spills: &mut P,
-    out: &mut C,
 ) -> Conclusion
     ensures why { Concludes T.tells (T.faults tree.old) (T.faults tree.new) (T.files tree.old)
         (command (words_of words.now)) result }

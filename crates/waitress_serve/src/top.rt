@@ -204,7 +204,7 @@ pub fn run<W: Threads + Wait + Sync, N: Net, T: Tree, P: Spills, C: Sink, G: Tri
         (C.written out.new ≡ C.written out.old)
         ⊎ (C.written out.new ≡ C.written out.old ++ printed (command (words_of words.now))) }
 {
-    match run_words(rt, alloc, words, net, tree, spills, out) {
+    match run_words(rt, alloc, words, out, net, tree, spills) {
         Conclusion::Done => 0,
         Conclusion::Usage(fault) => report_usage(alloc, err, &fault),
         Conclusion::NotBuilt => report(err, Fault::NotBuilt),
