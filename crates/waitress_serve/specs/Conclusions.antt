@@ -1,6 +1,8 @@
 -- Internal: what a command leaves, by how it ended.
 use Rattle.std.specs.Prelude.{◌≡◌, ◌<◌, ◌≤◌, ℕ, Bool, ◌⊎◌, ◌||◌, true, false, IsTrue, List, []}
 use Rattle.std.specs.Prelude.{◌++◌, Option, Some, Result, Ok, Err}
+use Rattle.adjust.specs.declared.types.UsageFault.{UsageFault}
+use Rattle.adjust.specs.declared.types.UsageFault.TheVariants.{NoMemory}
 use Rattle.outside.specs.Causes.{Rose, added}
 use Rattle.outside.specs.Net.{NetState}
 use Rattle.outside.specs.declared.retired.Retired.{Retired}
@@ -68,6 +70,12 @@ IsOfServing (conclusion.Usage fault) = ⊥
 IsOfServing conclusion.NotBuilt = ⊥
 IsOfServing (conclusion.Unmade why) = ⊥
 IsOfServing _ = Unit {0}
+
+-- words that could not be read end as their fault, or for want of memory
+abbrev pub IsUnread : UsageFault → Conclusion → Type 0
+IsUnread wrong (conclusion.Usage fault) = (fault ≡ wrong) × (wrong ≡ NoMemory → ⊥)
+IsUnread wrong conclusion.NoMemory = Unit {0}
+IsUnread wrong _ = ⊥
 
 -- printing ends in one of three ways
 abbrev pub IsOfPrinting : Conclusion → Type 0

@@ -13,7 +13,7 @@ ghost use Rattle.waitress_serve.specs.Completeness.{IsAnswered, IsBrief, IsStill
 ghost use Rattle.waitress_serve.specs.Conclusions.{BindCount, Concludes, DoneAdds, DoneStops};
 ghost use Rattle.waitress_serve.specs.Conclusions.{FailsUnstopped, IsDownBy, IsOfPrinting};
 ghost use Rattle.waitress_serve.specs.Conclusions.{IsOfServing, NetLeaves, OutCount, OutLeaves};
-ghost use Rattle.waitress_serve.specs.Conclusions.{PollCount, Ran, RanOver, TableCount};
+ghost use Rattle.waitress_serve.specs.Conclusions.{IsUnread, PollCount, Ran, RanOver, TableCount};
 ghost use Rattle.waitress_serve.specs.Headline.{Added, KeepsLimit, RetiresGiven, SettlesRuns};
 ghost use Rattle.waitress_serve.specs.Headline.{SettlesSpills, ShutLast, grounds};
 ghost use Rattle.waitress_serve.specs.Made.{can_serve, reads_files, reads_table};
@@ -172,6 +172,16 @@ fn carry_out<W: Wait, N: Net, T: Tree, P: Spills, C: Sink>(
     }
 }
 
+// How words end that could not be read.
+fn unread(fault: UsageFault) -> Conclusion
+    ensures { IsUnread fault result }
+{
+    match fault {
+        UsageFault::NoMemory => Conclusion::NoMemory,
+        other => Conclusion::Usage(other),
+    }
+}
+
 /// Does what the words ask for.
 pub(crate) fn run_words<W: Wait, N: Net, T: Tree, P: Spills, C: Sink>(
     rt: &W,
@@ -255,9 +265,6 @@ pub(crate) fn run_words<W: Wait, N: Net, T: Tree, P: Spills, C: Sink>(
 {
     match read(alloc, words) {
         Ok(command) => carry_out(rt, alloc, command, net, tree, spills, out),
-        Err(fault) => match fault {
-            UsageFault::NoMemory => Conclusion::NoMemory,
-            other => Conclusion::Usage(other),
-        },
+        Err(fault) => unread(fault),
     }
 }
