@@ -112,11 +112,11 @@ pub record IsSameServing {L A R : Type 0} (old new : Serving L A R) : Type 0 whe
   pub settings : new.settings ≡ old.settings
 
 -- what serving leaves of a net but for what is told: and no count of spills falls
-pub record LeavesRest {N K L P M S : Type 0} (net : Nets N L P M) (spills : Stores K S) (n n' : N)
+pub record LeavesRest {N K L P M S : Type 0} (net : Nets N L P M) (stores : Stores K S) (n n' : N)
     (k k' : K) : Type 0 where
   pub bind : net.bind_faults n' ≡ net.bind_faults n
   pub plan : net.plan n' ≡ net.plan n
-  pub spills : spills.faults k ≤ spills.faults k'
+  pub spills : stores.faults k ≤ stores.faults k'
 
 -- ---- what is told of a server, by the kinds of links, of spills, of the application and its runs
 
