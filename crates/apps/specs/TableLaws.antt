@@ -1,4 +1,4 @@
--- What is left of a list of steps.
+-- Internal: what is left of a list of steps.
 use Rattle.std.specs.Prelude.{◌≤◌, ◌-◌, ℕ, List, length, drop}
 use Rattle.std.proofs.Math.Nat.{le_of_eq}
 use Rattle.std.proofs.lemmas.List.{length-drop}

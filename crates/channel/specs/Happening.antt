@@ -1,4 +1,4 @@
--- What one recv, one send and the end of a call come to, by what is shown.
+-- Internal: what one recv, one send and the end of a call come to, by what is shown.
 use Rattle.std.specs.Prelude.{◌≡◌, ◌≤◌, ◌<◌, ◌+◌, ℕ, Bool, true, false, not, ◌||◌, IsTrue}
 use Rattle.std.specs.Prelude.{List, ◌++◌, length, is_some, Option, Some, None}
 use Rattle.outside.specs.Causes.{Rose, raised}

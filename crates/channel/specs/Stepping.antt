@@ -1,4 +1,4 @@
--- What one step of the answering side does to the state, and what is told of it.
+-- Internal: what one step of the answering side does to the state, and what is told of it.
 use Rattle.std.specs.Prelude.{◌≡◌, ◌≤◌, ◌<◌, ◌⊎◌, ℕ, Bool, true, false, List, [], ◌∷◌, Some, None}
 use Rattle.request_stream.specs.declared.types.Unit.{Unit as AUnit}
 use Rattle.channel.specs.Acting.{Begins}

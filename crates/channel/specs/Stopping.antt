@@ -1,4 +1,4 @@
--- Steps of an answer, and why it breaks off.
+-- Internal: steps of an answer, and why it breaks off.
 use Rattle.std.specs.Prelude.{◌≡◌, ◌<◌, ℕ, Bool, IsTrue, List}
 use Rattle.wsgi.specs.declared.step.Step.{Step}
 use Rattle.channel.specs.Writing.{Shuts, is_busy, still_gives}

@@ -1,4 +1,4 @@
--- A turn of the answering side.
+-- Internal: a turn of the answering side.
 use Rattle.std.specs.Prelude.{◌≡◌, ℕ, Bool, List, [], ◌∷◌, Option, Some}
 use Rattle.outside.specs.declared.types.Peer.{Peer}
 use Rattle.spill_buffer.specs.declared.fault.BufferFault.{BufferFault}

@@ -1,4 +1,4 @@
--- What a reader does with a piece, from one reading to the next.
+-- Internal: what a reader does with a piece, from one reading to the next.
 use Rattle.std.specs.Prelude.{◌≡◌, ◌≤◌, ◌+◌, ℕ, false, List, [], length, take}
 use Rattle.chunk_body.specs.Reading.{Reading, reads, decodes, has_ended}
 use Rattle.chunk_body.specs.declared.place.Place.{Place}

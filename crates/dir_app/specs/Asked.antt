@@ -1,4 +1,4 @@
--- What is answered to what is asked for.
+-- Internal: what is answered to what is asked for.
 use Rattle.std.specs.Prelude.{ℕ, List, string_bytes}
 use Rattle.outside.specs.Tree.{content_of}
 use Rattle.wsgi.specs.declared.step.Step.{Step}

@@ -1,4 +1,4 @@
--- Of two that tell both do.
+-- Internal: of two that tell both do.
 use Rattle.std.specs.Prelude.{Bool, true, false, ◌&&◌, IsTrue, refl}
 use Rattle.std.proofs.lemmas.Bool.{false≢true}
 

@@ -1,4 +1,4 @@
--- The steps that are left are as many as is said.
+-- Internal: the steps that are left are as many as is said.
 use Rattle.std.specs.Prelude.{◌≡◌, ◌≤◌, ◌+◌, ◌-◌, ◌^◌, ℕ, Bool, true, false, List, [], Option, None}
 use Rattle.std.specs.Prelude.{Some, length, drop, nat_lt, option_map, unwrap_or, refl}
 use Rattle.std.specs.Option.{ForSome}

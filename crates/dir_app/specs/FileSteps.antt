@@ -1,4 +1,4 @@
--- The steps that are left of a file, by what was found of it.
+-- Internal: the steps that are left of a file, by what was found of it.
 use Rattle.std.specs.Prelude.{ℕ, Bool, ◌+◌, ◌-◌, ◌^◌, List, [], drop, Option, None, Some, unwrap_or}
 use Rattle.wsgi.specs.declared.step.Step.{Step}
 use Rattle.apps.specs.Pieces.{piece_count, pieces}

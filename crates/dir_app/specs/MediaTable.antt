@@ -1,4 +1,4 @@
--- The table of suffixes as it is searched: each has the number of its type.
+-- Internal: the table of suffixes as it is searched: each has the number of its type.
 use Rattle.std.specs.Prelude.{ℕ, ◌==◌, List, [], ◌∷◌, codes, if◌then◌else◌}
 use Rattle.dir_app.specs.Media.{unknown_type}
 

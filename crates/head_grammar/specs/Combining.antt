@@ -1,4 +1,4 @@
--- How fields of equal name become one, field by field (RFC 9110, section 5.2).
+-- Internal: how fields of equal name become one, field by field (RFC 9110, section 5.2).
 use Rattle.std.specs.Prelude.{◌≡◌, ℕ, List, [], ◌∷◌, ◌++◌, codes, map, position, if◌then◌else◌}
 use Rattle.std.specs.Borrow.{Bor}
 use Rattle.std.specs.BTreeMap.{BTreeMap, get_by}

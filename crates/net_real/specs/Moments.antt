@@ -1,4 +1,4 @@
--- The clock of a net.
+-- Internal: the clock of a net.
 use Rattle.std.specs.Prelude.{ℕ, ◌+◌, ◌-◌, ◌/◌, ◌^◌, ◌<◌, ◌≤◌}
 use Rattle.net_real.specs.declared.net.clock.SteadyClock.{SteadyClock}
 

@@ -1,4 +1,4 @@
--- What a step of a stream is given.
+-- Internal: what a step of a stream is given.
 use Rattle.std.specs.Prelude.{◌<◌, ℕ, List, length}
 use Rattle.request_stream.specs.Reading.{ArePositive}
 use Rattle.request_stream.specs.declared.types.Limits.{Limits}
