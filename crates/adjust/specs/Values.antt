@@ -6,7 +6,7 @@ use Rattle.std.specs.List.{list_all, prefix_len, suffix_len}
 use Rattle.std.specs.Option.{option_map_or}
 use Rattle.std.specs.Str.{bytes_eq}
 use Rattle.std.specs.Str.Parse.{digits_value}
-use Rattle.byte_tables.specs.Classes.{is_digit, is_field, is_hex, is_letter}
+use Rattle.byte_tables.specs.Classes.{is_digit, is_field, is_hex, is_letter, is_white_space}
 
 -- one or more bytes of a class
 abbrev pub is_some_of : (ℕ → Bool) → List ℕ → Bool
@@ -70,9 +70,6 @@ abbrev pub is_scheme : List ℕ → Bool
 is_scheme text = begins_with is_letter text && list_all is_scheme_byte text
 
 -- the value of a field: no white space stands at its ends (RFC 9110, section 5.5)
-abbrev pub is_white_space : ℕ → Bool
-is_white_space b = b == 32 || b == 9
-
 abbrev pub is_field_text : List ℕ → Bool
 is_field_text text =
     list_all is_field text && not (begins_with is_white_space text) && not

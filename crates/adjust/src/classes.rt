@@ -4,7 +4,7 @@ ghost use Rattle.std.specs.List.{list_all};
 ghost use Rattle.byte_tables.specs.Classes as tables;
 ghost use Rattle.adjust.specs.Values as spec;
 
-use byte_tables::{is_digit, is_field, is_hex, is_target};
+use byte_tables::{is_digit, is_field, is_hex, is_target, is_white_space};
 
 fn is_host_byte(byte: u8) -> bool
     ensures { result ≡ spec.is_host_byte byte }
@@ -123,14 +123,8 @@ pub(crate) fn is_scheme(text: &[u8]) -> bool
     begins_with_letter(text) && are_scheme_bytes(text)
 }
 
-fn is_white_space(byte: u8) -> bool
-    ensures { result ≡ spec.is_white_space byte }
-{
-    matches!(byte, b' ' | b'\t')
-}
-
 fn begins_with_space(text: &[u8]) -> bool
-    ensures { result ≡ spec.begins_with spec.is_white_space text.now }
+    ensures { result ≡ spec.begins_with tables.is_white_space text.now }
 {
     match text.first() {
         Some(byte) => is_white_space(*byte),
@@ -139,7 +133,7 @@ fn begins_with_space(text: &[u8]) -> bool
 }
 
 fn ends_with_space(text: &[u8]) -> bool
-    ensures { result ≡ spec.ends_with spec.is_white_space text.now }
+    ensures { result ≡ spec.ends_with tables.is_white_space text.now }
 {
     match text.last() {
         Some(byte) => is_white_space(*byte),

@@ -17,6 +17,10 @@ is_digit b = is_between 48 57 b
 abbrev pub is_hex : ℕ → Bool
 is_hex b = is_digit b || is_between 65 70 b || is_between 97 102 b
 
+-- SP or HTAB, of which optional white space is made (RFC 9110, section 5.6.3)
+abbrev pub is_white_space : ℕ → Bool
+is_white_space b = b == 32 || b == 9
+
 -- VCHAR (RFC 5234, appendix B.1)
 abbrev pub is_visible : ℕ → Bool
 is_visible b = is_between 33 126 b

@@ -107,6 +107,13 @@ pub fn is_target(byte: u8) -> bool
     class_of(byte) & TARGET != 0
 }
 
+/// Whether a byte is SP or HTAB (RFC 9110, section 5.6.3).
+pub fn is_white_space(byte: u8) -> bool
+    ensures { result ≡ classes.is_white_space byte }
+{
+    matches!(byte, b' ' | b'\t')
+}
+
 /// Whether a byte is a DIGIT (RFC 5234, appendix B.1).
 pub fn is_digit(byte: u8) -> bool
     ensures { result ≡ classes.is_digit byte }

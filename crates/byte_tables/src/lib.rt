@@ -12,6 +12,7 @@ mod tests;
 pub use cases::Case;
 pub use classes::{
     DIGIT, FIELD, HEX, TARGET, TOKEN, class_of, is_digit, is_field, is_hex, is_target, is_token,
+    is_white_space,
 };
 pub use refusal::Refusal;
 pub use rows::{find, find_folded, has};

@@ -4,7 +4,7 @@ use Rattle.std.proofs.Common.{cond, arith}
 use Rattle.std.specs.Prelude.{◌&&◌, ◌==◌}
 use Rattle.std.specs.List.{onto_first}
 use Rattle.std.proofs.lemmas.Bool.Decides.{nat_tests}
-use Rattle.head_grammar.specs.Classes.{is_white_space}
+use Rattle.byte_tables.specs.Classes.{is_white_space}
 use Rattle.head_grammar.specs.Lines.{lines}
 use Rattle.head_grammar.specs.FieldLines.{first_continues}
 

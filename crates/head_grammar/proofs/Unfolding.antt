@@ -9,7 +9,8 @@ use Rattle.byte_tables.specs.Classes.{is_token}
 use Rattle.byte_tables.specs.declared.refusal.Refusal.{Refusal}
 use Rattle.byte_tables.specs.declared.refusal.Refusal.TheVariants.{FieldLine}
 use Rattle.head_grammar.specs.declared.types.Field.{Field}
-use Rattle.head_grammar.specs.Classes.{is_white_space, without_space_in_front}
+use Rattle.byte_tables.specs.Classes.{is_white_space}
+use Rattle.head_grammar.specs.Classes.{without_space_in_front}
 use Rattle.head_grammar.specs.FieldLines.{continues, first_continues, with_one_space, onto_lines}
 use Rattle.head_grammar.specs.FieldLines.{unfolded, is_name, cut_at, field_line, onto_fields}
 use Rattle.head_grammar.specs.FieldLines.{field_lines}

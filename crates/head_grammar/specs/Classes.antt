@@ -1,10 +1,7 @@
 -- White space (RFC 9110, section 5.6.3).
-use Rattle.std.specs.Prelude.{ℕ, Bool, List, length, take, drop, ◌-◌, ◌||◌, ◌==◌}
+use Rattle.std.specs.Prelude.{ℕ, List, length, take, drop, ◌-◌}
 use Rattle.std.specs.List.{prefix_len, suffix_len}
-
--- SP and HTAB, of which optional white space is made
-abbrev pub is_white_space : ℕ → Bool
-is_white_space b = b == 32 || b == 9
+use Rattle.byte_tables.specs.Classes.{is_white_space}
 
 abbrev pub without_space_in_front : List ℕ → List ℕ
 without_space_in_front bytes = drop (prefix_len is_white_space bytes) bytes

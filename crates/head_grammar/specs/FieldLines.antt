@@ -8,7 +8,8 @@ use Rattle.std.specs.Str.{bytes_eq}
 use Rattle.byte_tables.specs.Classes.{is_field, is_token}
 use Rattle.byte_tables.specs.declared.refusal.Refusal.{Refusal}
 use Rattle.byte_tables.specs.declared.refusal.Refusal.TheVariants as refusal
-use Rattle.head_grammar.specs.Classes.{is_white_space, trimmed, without_space_in_front}
+use Rattle.byte_tables.specs.Classes.{is_white_space}
+use Rattle.head_grammar.specs.Classes.{trimmed, without_space_in_front}
 use Rattle.head_grammar.specs.declared.types.Field.{Field}
 
 -- obs-fold (section 5.2): a line that begins with white space continues the line before it

@@ -1,15 +1,10 @@
 //! White space, and what texts are made of.
 ghost use Rattle.std.specs.Prelude.{◌≡◌, ◌≤◌, IfSome, length, not, position};
 ghost use Rattle.std.specs.List.{list_all};
-ghost use Rattle.byte_tables.specs.Classes.{is_field, is_token};
-ghost use Rattle.head_grammar.specs.Classes.{is_white_space, trimmed, without_space_behind};
-ghost use Rattle.head_grammar.specs.Classes.{without_space_in_front};
+ghost use Rattle.byte_tables.specs.Classes.{is_field, is_token, is_white_space};
+ghost use Rattle.head_grammar.specs.Classes.{trimmed, without_space_behind, without_space_in_front};
 
-pub(crate) fn is_white_space(byte: u8) -> bool
-    ensures { result ≡ is_white_space byte }
-{
-    matches!(byte, b' ' | b'\t')
-}
+use byte_tables::is_white_space;
 
 fn place_of_other(bytes: &[u8]) -> Option<usize>
     ensures place { result ≡ position (λ b. not (is_white_space b)) bytes.now }

@@ -4,7 +4,7 @@ ghost use Rattle.std.specs.Iterator.{YieldsFirstRef, item_count};
 ghost use Rattle.head_grammar.specs.Lines.{line_mark, lines, skip_empty};
 ghost use Rattle.head_grammar.specs.FieldLines.{continues, first_continues};
 
-use crate::classes::is_white_space;
+use byte_tables::is_white_space;
 use memchr::memmem::Finder;
 use std::marker::Model;
 

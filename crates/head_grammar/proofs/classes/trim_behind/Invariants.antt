@@ -1,7 +1,7 @@
 -- What was passed from the end on is white space.
 use Rattle.std.proofs.Common.{◌≡◌, ◌+◌, ◌≤◌, length, take}
 use Rattle.std.specs.List.{suffix_len}
-use Rattle.head_grammar.specs.Classes.{is_white_space}
+use Rattle.byte_tables.specs.Classes.{is_white_space}
 use Rattle.head_grammar.proofs.classes.trim_behind.Given as goal
 
 abbrev pub invariant-loop-end : goal.invariant-loop-end

@@ -2,7 +2,7 @@
 use Rattle.std.proofs.Common.{◌-◌, ap, drop, length, ◌∙◌, arith}
 use Rattle.std.proofs.lemmas.List.{take_all, length-drop}
 use Rattle.std.specs.Prelude.{unwrap_or}
-use Rattle.head_grammar.specs.Classes.{is_white_space}
+use Rattle.byte_tables.specs.Classes.{is_white_space}
 use Rattle.byte_tables.proofs.ListEnds.{first_other}
 use Rattle.head_grammar.proofs.classes.trim_front.Goals as goal
 
