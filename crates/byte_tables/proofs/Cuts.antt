@@ -7,15 +7,16 @@ use Rattle.std.proofs.lemmas.Bool.{ltb-true, ltb-false}
 use Rattle.std.proofs.lemmas.List.{length-drop, take_all}
 use Rattle.std.proofs.lemmas.List.Splits.{slice_split_first, length-slice_split}
 
+-- a place that is told where a test is true
+pub by_test : (t : Bool) (n k : ℕ) → cond t (Some n) None ≡ Some k → (t ≡ true) × (n ≡ k)
+by_test true n k e = let same : n ≡ k = cc in (refl, same)
+by_test false n k e = cc
+
+pub by_no_test : (t : Bool) (n : ℕ) → cond t (Some n) None ≡ None → t ≡ false
+by_no_test true n e = cc
+by_no_test false n e = refl
+
 module _ (p : ℕ → Bool) where
-  by_test : (t : Bool) (n k : ℕ) → cond t (Some n) None ≡ Some k → (t ≡ true) × (n ≡ k)
-  by_test true n k e = let same : n ≡ k = cc in (refl, same)
-  by_test false n k e = cc
-
-  by_no_test : (t : Bool) (n : ℕ) → cond t (Some n) None ≡ None → t ≡ false
-  by_no_test true n e = cc
-  by_no_test false n e = refl
-
   -- the first part ends at the place of the first such element
   pub cut_some : (xs : List ℕ) (k : ℕ) → position p xs ≡ Some k → slice_split p xs ≡ take k xs ∷
       slice_split p (drop (k + 1) xs)

@@ -1,19 +1,12 @@
 -- The place of the first element that passes a test, and that element.
-use Rattle.std.proofs.Common.{◌≡◌, ℕ, Bool, true, false, List, length, get_or, None, Some, refl}
-use Rattle.std.proofs.Common.{sym, subst, ◌∙◌, cond}
+use Rattle.std.proofs.Common.{◌≡◌, ℕ, Bool, List, length, get_or, None, Some, refl, sym, subst}
+use Rattle.std.proofs.Common.{◌∙◌}
 use Rattle.std.specs.Prelude.{find, nat_lt, position}
 use Rattle.std.specs.List.{position_or_len}
 use Rattle.std.proofs.lemmas.Bool.{ltb-true, ltb-false}
 use Rattle.std.proofs.lemmas.List.Folds.{find_at}
 use Rattle.std.proofs.lemmas.Option.{slice_get_past, slice_get_read}
-
-by_test : (t : Bool) (n k : ℕ) → cond t (Some n) None ≡ Some k → (t ≡ true) × (n ≡ k)
-by_test true n k e = let same : n ≡ k = cc in (refl, same)
-by_test false n k e = cc
-
-by_no_test : (t : Bool) (n : ℕ) → cond t (Some n) None ≡ None → t ≡ false
-by_no_test true n e = cc
-by_no_test false n e = refl
+use Rattle.byte_tables.proofs.Cuts.{by_no_test, by_test}
 
 pub found : {X : Type 0} (p : X → Bool) (xs : List X) (k : ℕ) (x : X) → position p xs ≡ Some k →
     x ≡ get_or xs k x → Some x ≡ find p xs
