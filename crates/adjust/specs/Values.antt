@@ -7,6 +7,7 @@ use Rattle.std.specs.Option.{option_map_or}
 use Rattle.std.specs.Str.{bytes_eq}
 use Rattle.std.specs.Str.Parse.{digits_value}
 use Rattle.byte_tables.specs.Classes.{is_digit, is_field, is_hex, is_letter, is_white_space}
+use Rattle.byte_tables.specs.Numbers.{is_number}
 
 -- one or more bytes of a class
 abbrev pub is_some_of : (ℕ → Bool) → List ℕ → Bool
@@ -24,7 +25,7 @@ as_u64 n = if nat_lt n 18446744073709551616 then Some n else None
 
 -- the number that one or more digits write
 unfoldable pub number : List ℕ → Option ℕ
-number text = if is_some_of is_digit text then as_u64 (digits_value 10 text) else None
+number text = if is_number text then as_u64 (digits_value 10 text) else None
 
 -- a byte of a name or of an address of version 4
 abbrev pub is_host_byte : ℕ → Bool

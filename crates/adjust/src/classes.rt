@@ -4,7 +4,7 @@ ghost use Rattle.std.specs.List.{list_all};
 ghost use Rattle.byte_tables.specs.Classes as tables;
 ghost use Rattle.adjust.specs.Values as spec;
 
-use byte_tables::{is_digit, is_field, is_hex, is_target, is_white_space};
+use byte_tables::{is_field, is_hex, is_target, is_white_space};
 
 fn is_host_byte(byte: u8) -> bool
     ensures { result ≡ spec.is_host_byte byte }
@@ -28,19 +28,6 @@ fn is_scheme_byte(byte: u8) -> bool
     ensures { result ≡ spec.is_scheme_byte byte }
 {
     byte.is_ascii_alphanumeric() || matches!(byte, b'+' | b'-' | b'.')
-}
-
-fn are_digits(text: &[u8]) -> bool
-    ensures { result ≡ list_all tables.is_digit text.now }
-{
-    text.iter().all(|byte| is_digit(*byte))
-}
-
-/// Whether the text is one or more digits.
-pub(crate) fn is_numeral(text: &[u8]) -> bool
-    ensures { result ≡ spec.is_some_of tables.is_digit text.now }
-{
-    !text.is_empty() && are_digits(text)
 }
 
 fn are_host_bytes(text: &[u8]) -> bool

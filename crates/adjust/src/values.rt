@@ -1,42 +1,20 @@
 //! What single values are read as.
-ghost use Rattle.std.specs.Prelude.{◌≡◌, ◌==◌, ◌+◌, ◌*◌, ◌≤◌, length, option_map, not, position};
-ghost use Rattle.std.specs.Prelude.{true, IfOk, IsTrue};
-ghost use Rattle.std.specs.Char.{digit_value};
-ghost use Rattle.std.specs.List.{list_all, prefix_len};
-ghost use Rattle.std.specs.Str.Parse.{digits_value};
-ghost use Rattle.byte_tables.specs.Classes.{is_digit};
+ghost use Rattle.std.specs.Prelude.{◌≡◌, ◌==◌, ◌≤◌, length, option_map, not, position, IfOk};
+ghost use Rattle.std.specs.List.{prefix_len};
 ghost use Rattle.adjust.specs.Values as spec;
 
-use crate::classes::{ends_with_bracket, is_host_text, is_literal_text, is_numeral};
+use crate::classes::{ends_with_bracket, is_host_text, is_literal_text};
+use byte_tables::{is_number, number_of};
 use outside::Bytes;
 use std::alloc::{AllocError, Global};
-
-// The number with one more digit behind it.
-fn with_digit(number: u64, digit: u8) -> Option<u64>
-    requires { IsTrue (is_digit digit) }
-    ensures { result ≡ spec.as_u64 (number * 10 + digit_value digit) }
-{
-    number.checked_mul(10)?.checked_add(u64::from(digit - b'0'))
-}
-
-fn number_of_digits(digits: &[u8]) -> Option<u64>
-    requires { list_all is_digit digits.now ≡ true }
-    ensures { result ≡ spec.as_u64 (digits_value 10 digits.now) }
-{
-    let mut number: u64 = 0;
-    for digit in digits {
-        number = with_digit(number, *digit)?;
-    }
-    Some(number)
-}
 
 /// The number that digits write.
 #[tactic(auto, unfolding(crate::specs::Values::number))]
 pub(crate) fn read_number(text: &[u8]) -> Option<u64>
     ensures { result ≡ spec.number text.now }
 {
-    if is_numeral(text) {
-        number_of_digits(text)
+    if is_number(text) {
+        number_of(text)
     } else {
         None
     }

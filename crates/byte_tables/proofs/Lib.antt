@@ -1,3 +1,4 @@
 pub mod Cuts
+mod Digits
 pub mod ListEnds
 mod Positions

@@ -1,3 +1,4 @@
 pub mod Cases
 pub mod Classes
+pub mod Numbers
 pub mod Refusals

@@ -4,6 +4,7 @@
 
 mod cases;
 mod classes;
+mod numbers;
 mod refusal;
 mod rows;
 #[cfg(test)]
@@ -14,5 +15,6 @@ pub use classes::{
     DIGIT, FIELD, HEX, TARGET, TOKEN, class_of, is_digit, is_field, is_hex, is_target, is_token,
     is_white_space,
 };
+pub use numbers::{is_number, number_of};
 pub use refusal::Refusal;
 pub use rows::{find, find_folded, has};

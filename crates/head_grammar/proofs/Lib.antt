@@ -6,7 +6,6 @@ mod LineParts
 mod LowerCase
 mod Rests
 mod Walks
-mod Digits
 mod Firsts
 mod OneByOne
 mod Places

@@ -1,11 +1,11 @@
 -- How long a body is, and what a head says of the connection (RFC 9112, sections 6.3 and 9.3).
-use Rattle.std.specs.Prelude.{ℕ, Bool, true, false, not, ◌&&◌, ◌||◌, ◌==◌, nat_le, nat_lt, List}
-use Rattle.std.specs.Prelude.{length, codes, Option, None, Some, Result, Ok, Err, if◌then◌else◌}
-use Rattle.std.specs.List.{list_all, list_any, slice_split}
+use Rattle.std.specs.Prelude.{ℕ, Bool, true, false, not, ◌&&◌, ◌||◌, ◌==◌, nat_le, List}
+use Rattle.std.specs.Prelude.{codes, Option, None, Some, Result, Ok, Err, if◌then◌else◌}
+use Rattle.std.specs.List.{list_any, slice_split}
 use Rattle.std.specs.Option.{is_some}
 use Rattle.std.specs.Str.{str_eq_ignore_ascii_case}
 use Rattle.std.specs.Str.Parse.{digits_value}
-use Rattle.byte_tables.specs.Classes.{is_digit}
+use Rattle.byte_tables.specs.Numbers.{is_number}
 use Rattle.byte_tables.specs.declared.refusal.Refusal.{Refusal}
 use Rattle.byte_tables.specs.declared.refusal.Refusal.TheVariants as refusal
 use Rattle.head_grammar.specs.Classes.{trimmed}
@@ -16,14 +16,10 @@ use Rattle.head_grammar.specs.declared.types.Framing.TheVariants as framing
 use Rattle.head_grammar.specs.declared.types.Version.{Version}
 use Rattle.head_grammar.specs.declared.types.Version.TheVariants.{Old, New}
 
--- Content-Length = 1*DIGIT (RFC 9110, section 8.6)
-abbrev pub is_number : List ℕ → Bool
-is_number value = nat_lt 0 (length value) && list_all is_digit value
-
 abbrev pub fixed : ℕ → Framing
 fixed n = if n == 0 then framing.Empty else framing.Fixed n
 
--- a body has fewer bytes than the limit
+-- Content-Length (RFC 9110, section 8.6); a body has fewer bytes than the limit
 abbrev pub by_length : ℕ → List ℕ → Result Framing Refusal
 by_length max_body value =
     if not (is_number value) then Err refusal.Length

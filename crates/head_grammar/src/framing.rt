@@ -5,8 +5,8 @@ ghost use Rattle.head_grammar.specs.FieldLines.{field_value};
 ghost use Rattle.head_grammar.specs.Framings as spec;
 
 use crate::classes::trim;
-use crate::numbers::{is_number, number_of};
 use crate::{Fields, Framing, Refusal, Version};
+use byte_tables::{is_number, number_of};
 
 // ASCII letters are compared without case.
 fn is_text(value: &[u8], text: &[u8]) -> bool

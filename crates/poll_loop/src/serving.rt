@@ -1,5 +1,5 @@
 //! Turns, one after the other.
-ghost use Rattle.std.specs.Prelude.{◌≡◌, ◌≢◌, ◌≤◌, ◌⊎◌, [], IsTrue, Ok, false, length};
+ghost use Rattle.std.specs.Prelude.{◌≡◌, ◌≢◌, ◌⊎◌, [], IsTrue, Ok, false, length};
 ghost use Rattle.outside.specs.Causes.{raised};
 ghost use Rattle.poll_loop.specs.Accounts.{LastKnows, ServeCause, ServeEnds};
 ghost use Rattle.poll_loop.specs.Connections.{CameMore};

@@ -7,7 +7,7 @@ use Rattle.std.specs.Prelude.{position, if◌then◌else◌}
 use Rattle.std.specs.List.{list_all, list_any}
 use Rattle.std.specs.Str.Parse.{digits_value}
 use Rattle.byte_tables.specs.Classes.{is_between, is_digit, is_letter}
-use Rattle.head_grammar.specs.Framings.{is_number}
+use Rattle.byte_tables.specs.Numbers.{is_number}
 use Rattle.proxy_trust.specs.declared.endpoint.Endpoint.{Endpoint}
 
 -- a letter, a digit, or one of "." ":" "-" and "_"

@@ -3,7 +3,7 @@ ghost use Rattle.std.specs.Prelude.{◌≡◌, ◌<◌, ◌==◌, length, option
 ghost use Rattle.std.specs.List.{list_all};
 ghost use Rattle.proxy_trust.specs.Endpoints as spec;
 
-use head_grammar::{is_number, number_of};
+use byte_tables::{is_number, number_of};
 use outside::Bytes;
 use std::alloc::{AllocError, Global};
 

@@ -6,7 +6,7 @@ use Rattle.std.specs.Str.{str_eq_ignore_ascii_case}
 use Rattle.std.specs.Str.Parse.{digits_value}
 use Rattle.byte_tables.specs.Classes.{is_between, is_digit, is_field}
 use Rattle.head_grammar.specs.FieldLines.{is_name}
-use Rattle.head_grammar.specs.Framings.{is_number}
+use Rattle.byte_tables.specs.Numbers.{is_number}
 use Rattle.head_grammar.specs.declared.types.Field.{Field}
 
 -- a code from 200 to 599, SP and a reason-phrase, which may be empty (RFC 9112, section 4)

@@ -9,7 +9,8 @@ ghost use Rattle.task_core.specs.Starts.{is_valid, declared_length, lengths, are
 ghost use Rattle.task_core.specs.HopByHop.{hop_rows};
 
 use byte_tables::{Case, cases, find_folded, is_digit};
-use head_grammar::{Field, are_field_bytes, is_name, is_number, number_of};
+use byte_tables::{is_number, number_of};
+use head_grammar::{Field, are_field_bytes, is_name};
 use outside::{Bytes, Items};
 
 /// A status and fields that are valid, and the length that the fields declare.

@@ -2,7 +2,7 @@
 use Rattle.std.proofs.Common.{◌≡◌, ◌<◌, take}
 use Rattle.std.specs.Prelude.{◌^◌}
 use Rattle.std.specs.Str.Parse.{digits_value}
-use Rattle.head_grammar.proofs.numbers.number_of.Given as goal
+use Rattle.byte_tables.proofs.numbers.number_of.Given as goal
 
 abbrev pub invariant-loop-digit : goal.invariant-loop-digit
 invariant-loop-digit l = record {

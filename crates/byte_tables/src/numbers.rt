@@ -1,12 +1,12 @@
-//! What digits write.
+//! Numbers in decimal digits.
 ghost use Rattle.std.specs.Prelude.{◌≡◌, ◌<◌, ◌+◌, ◌*◌, ◌^◌, SomeIff, IsTrue};
 ghost use Rattle.std.specs.List.{list_all};
 ghost use Rattle.std.specs.Char.{digit_value};
 ghost use Rattle.std.specs.Str.Parse.{digits_value};
 ghost use Rattle.byte_tables.specs.Classes as classes;
-ghost use Rattle.head_grammar.specs.Framings as spec;
+ghost use Rattle.byte_tables.specs.Numbers as spec;
 
-use byte_tables::is_digit;
+use crate::is_digit;
 
 fn are_digits(text: &[u8]) -> bool
     ensures { result ≡ list_all classes.is_digit text.now }

@@ -2,8 +2,8 @@
 use Rattle.std.proofs.Common.{◌<◌, ◌∙◌, sym, subst, arith}
 use Rattle.std.specs.Prelude.{SomeIff, ◌^◌}
 use Rattle.std.specs.Str.Parse.{digits_value}
-use Rattle.head_grammar.proofs.Digits.{number_more, number_whole}
-use Rattle.head_grammar.proofs.numbers.number_of.Goals as goal
+use Rattle.byte_tables.proofs.Digits.{number_more, number_whole}
+use Rattle.byte_tables.proofs.numbers.number_of.Goals as goal
 
 pub returns-in_err-number : goal.returns-in_err-number
 returns-in_err-number c =
