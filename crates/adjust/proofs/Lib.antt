@@ -1,4 +1,3 @@
-pub mod Choices
 pub mod Commands
 pub mod Cuts
 pub mod Entries
