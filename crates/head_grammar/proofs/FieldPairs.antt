@@ -5,15 +5,10 @@ use Rattle.std.specs.Prelude.{Option, Some, None, find, option_map, option_copie
 use Rattle.std.specs.Option.{is_some}
 use Rattle.std.specs.List.{list_any}
 use Rattle.std.specs.Str.{bytes_eq}
-use Rattle.std.proofs.lemmas.Bool.Decides.{same_from_decides}
-use Rattle.std.proofs.lemmas.Slice.Eq.{bytes_eq-Decides}
+use Rattle.std.proofs.lemmas.Cmp.{nat_list_eq_equiv}
 use Rattle.pair_list.specs.Firsts.{first_value}
 use Rattle.head_grammar.specs.FieldLines.{field_value, has_name}
 use Rattle.head_grammar.specs.Pairs.{field_of, fields_of}
-
-turned : (xs ys : List ℕ) → bytes_eq xs ys ≡ bytes_eq ys xs
-turned xs ys = same_from_decides (bytes_eq xs ys) (bytes_eq ys xs) (bytes_eq-Decides xs ys)
-    (λ e. sym ((bytes_eq-Decides ys xs).0 e), λ e. (bytes_eq-Decides ys xs).1 (sym e))
 
 value_step : (name : List ℕ) (pair : List ℕ × List ℕ) (pairs : List (List ℕ × List ℕ))
     (test : Bool) → first_value name pairs ≡ field_value name (fields_of pairs) →
@@ -30,7 +25,7 @@ value_found name (pair ∷ pairs) =
     value_step name pair pairs (bytes_eq pair.0 name) (value_found name pairs)
     ∙ ap (λ test. option_map (λ field. field.value)
     (cond test (Some (field_of pair.0 pair.1)) (find (has_name name) (fields_of pairs))))
-    (turned pair.0 name)
+    (nat_list_eq_equiv.symm pair.0 name)
 
 name_step : (name : List ℕ) (pair : List ℕ × List ℕ) (pairs : List (List ℕ × List ℕ))
     (test : Bool) → is_some (first_value name pairs) ≡ list_any (has_name name) (fields_of pairs) →
@@ -45,7 +40,7 @@ pub name_found : (name : List ℕ) (pairs : List (List ℕ × List ℕ)) →
 name_found name [] = refl
 name_found name (pair ∷ pairs) =
     name_step name pair pairs (bytes_eq pair.0 name) (name_found name pairs)
-    ∙ ap (λ test. test || list_any (has_name name) (fields_of pairs)) (turned pair.0 name)
+    ∙ ap (λ test. test || list_any (has_name name) (fields_of pairs)) (nat_list_eq_equiv.symm pair.0 name)
 
 pub copied_some : {T : Type 0} (found : Option (Bor T)) →
     is_some found ≡ is_some (option_copied found)

@@ -5,7 +5,6 @@ mod FieldPairs
 mod LineParts
 mod LowerCase
 mod Rests
-mod Walks
 mod Firsts
 mod OneByOne
 mod Places

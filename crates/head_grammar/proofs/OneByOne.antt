@@ -1,18 +1,26 @@
 -- Fields that are combined one by one.
 use Rattle.std.proofs.Common.{◌≡◌, ℕ, Bool, true, false, List, [], ◌∷◌, ◌++◌, refl, ap, sym, ◌∙◌}
 use Rattle.std.proofs.Common.{cond}
-use Rattle.std.specs.Prelude.{not, filter, codes}
+use Rattle.std.specs.Prelude.{not, ◌&&◌, ◌||◌, filter, codes}
 use Rattle.std.specs.List.{list_any}
 use Rattle.std.specs.Str.{bytes_eq}
 use Rattle.std.proofs.lemmas.Slice.Eq.{bytes_eq-Decides}
 use Rattle.std.proofs.lemmas.List.{append_assoc, append-nil}
 use Rattle.std.proofs.lemmas.List.Elements.{filter-append}
+use Rattle.std.proofs.lemmas.Cmp.{nat_list_eq_equiv}
 use Rattle.std.proofs.lemmas.Grind.{flat_map-append}
 use Rattle.head_grammar.specs.declared.types.Field.{Field}
 use Rattle.head_grammar.specs.Combining.{with_value, added}
 use Rattle.head_grammar.specs.FieldLines.{has_name, further_values, with_further, combined}
 use Rattle.head_grammar.specs.FieldLines.{names_differ}
-use Rattle.head_grammar.proofs.Names.{apart, eq_sym, neither}
+
+pub neither : (s t : Bool) → (s || t) ≡ false → (s ≡ false) × (t ≡ false)
+neither true t e = cc
+neither false t e = (refl, e)
+
+pub apart : (s t : Bool) → (not s && t) ≡ true → (s ≡ false) × (t ≡ true)
+apart true t e = cc
+apart false t e = (refl, e)
 
 -- the fields of other names
 abbrev others : List ℕ → List Field → List Field
@@ -145,7 +153,7 @@ combined_more (first ∷ rest) field =
     ap (λ t. cond t (with_value (with_further first rest) field.value
     ∷ others first.name (combined rest)) (with_further first rest
     ∷ added (others first.name (combined rest)) field))
-    (eq_sym first.name field.name)
+    (nat_list_eq_equiv.symm first.name field.name)
 
 none_pass : (test : Field → Bool) (fields : List Field) → list_any test fields ≡ false →
     (filter test fields ≡ []) × (filter (λ field. not (test field)) fields ≡ fields)

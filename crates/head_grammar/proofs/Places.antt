@@ -8,12 +8,12 @@ use Rattle.std.specs.BTreeMap.{BTreeMap, get_by}
 use Rattle.std.specs.Cmp.Lexicographic.{slice_cmp}
 use Rattle.std.specs.Ordering.{nat_cmp}
 use Rattle.std.specs.Str.{bytes_eq}
+use Rattle.std.proofs.lemmas.Cmp.{nat_list_eq_equiv}
 use Rattle.std.proofs.lemmas.Iterator.Adapters.{position_from-zero}
 use Rattle.head_grammar.specs.declared.types.Field.{Field}
 use Rattle.head_grammar.specs.Combining.{ArePlaces, with_value, added}
 use Rattle.head_grammar.specs.FieldLines.{has_name}
 use Rattle.std.proofs.lemmas.Slice.Eq.{bytes_eq-Decides}
-use Rattle.head_grammar.proofs.Names.{eq_sym}
 
 later_step : (t : Bool) (test : Field → Bool) (i : ℕ) (rest : List Field) →
     position_from test (i + 1 + 1) rest ≡ option_map (λ n. suc n)
@@ -120,7 +120,7 @@ pub places_last : (fields : List Field) (field : Field) (name : List ℕ) →
 places_last fields field name e =
     place_last (λ other. has_name name other) fields field ∙
     new_step (bytes_eq field.name name) (bytes_eq name field.name)
-    (position (λ other. has_name name other) fields) (length fields) (eq_sym field.name name)
+    (position (λ other. has_name name other) fields) (length fields) (nat_list_eq_equiv.symm field.name name)
     (λ same. ap (λ zs. position (λ other. has_name zs other) fields)
     (sym ((bytes_eq-Decides field.name name).0 same)) ∙ e)
 

@@ -1,14 +1,11 @@
 -- Internal: how fields of equal name become one, field by field (RFC 9110, section 5.2).
-use Rattle.std.specs.Prelude.{◌≡◌, ℕ, List, [], ◌∷◌, ◌++◌, codes, map, position, if◌then◌else◌}
+use Rattle.std.specs.Prelude.{◌≡◌, ℕ, List, [], ◌∷◌, ◌++◌, codes, position, if◌then◌else◌}
 use Rattle.std.specs.Borrow.{Bor}
 use Rattle.std.specs.BTreeMap.{BTreeMap, get_by}
 use Rattle.std.specs.Cmp.Lexicographic.{slice_cmp}
 use Rattle.std.specs.Ordering.{nat_cmp}
 use Rattle.head_grammar.specs.FieldLines.{has_name}
 use Rattle.head_grammar.specs.declared.types.Field.{Field}
-
-abbrev pub names_of : List Field → List (List ℕ)
-names_of fields = map (λ field. field.name) fields
 
 -- a field with a further value
 abbrev pub with_value : Field → List ℕ → Field

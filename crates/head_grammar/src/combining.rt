@@ -1,10 +1,6 @@
 //! Fields of equal name as one.
-ghost use Rattle.std.specs.Prelude.{◌≡◌, ◌↔◌, IfOk, IsSorted, IsTrue, OnOk, map};
-ghost use Rattle.std.specs.Cmp.Lexicographic.{slice_cmp};
-ghost use Rattle.std.specs.List.{IsDistinct};
-ghost use Rattle.std.specs.Ordering.{nat_cmp};
-ghost use Rattle.std.specs.Str.{bytes_eq};
-ghost use Rattle.head_grammar.specs.Combining.{ArePlaces, added, names_of, with_value};
+ghost use Rattle.std.specs.Prelude.{◌≡◌, map, IfOk, OnOk};
+ghost use Rattle.head_grammar.specs.Combining.{ArePlaces, added, with_value};
 ghost use Rattle.head_grammar.specs.FieldLines as spec;
 
 use crate::{Field, FieldList, Fields};
@@ -13,23 +9,9 @@ use std::alloc::{AllocError, Global};
 use std::collections::BTreeMap;
 use std::mem;
 
-/// Up to how many names are compared each with each.
-const FEW: usize = 24;
-
-fn few_names_differ(fields: &Fields<'_>) -> bool
-    ensures { result ≡ spec.names_differ fields.now }
-{
-    let mut rest = fields.iter();
-    while let Some((name, _)) = rest.next() {
-        if rest.has(name) {
-            return false;
-        }
-    }
-    true
-}
-
 fn names_of<'a>(alloc: Global, fields: &Fields<'a>) -> Result<Vec<&'a [u8]>, AllocError>
-    ensures { IfOk result (λ names. map (λ name. name.now) names.items ≡ names_of fields.now) }
+    ensures { IfOk result (λ names. map (λ name. name.now) names.items
+        ≡ map (λ field. field.name) fields.now) }
 {
     let mut names = Vec::with_capacity(alloc, fields.len())?;
     for (name, _) in fields.iter() {
@@ -38,34 +20,13 @@ fn names_of<'a>(alloc: Global, fields: &Fields<'a>) -> Result<Vec<&'a [u8]>, All
     Ok(names)
 }
 
-fn neighbours_differ(names: &[&[u8]]) -> bool
-    requires { IsSorted (λ a b. slice_cmp nat_cmp a.now b.now) names.now }
-    ensures { IsTrue result ↔ IsDistinct bytes_eq (map (λ name. name.now) names.now) }
-{
-    for later in 1..names.len() {
-        if names[later - 1] == names[later] {
-            return false;
-        }
-    }
-    true
-}
-
-// Whatever the names are, they are compared with their neighbours once they are in order.
-fn many_names_differ(alloc: Global, fields: &Fields<'_>) -> Result<bool, AllocError>
+// Sorted names rise from each to the next, but where two are equal.
+fn names_differ(alloc: Global, fields: &Fields<'_>) -> Result<bool, AllocError>
     ensures { IfOk result (λ differ. differ ≡ spec.names_differ fields.now) }
 {
     let mut names = names_of(alloc, fields)?;
     names.sort_unstable();
-    Ok(neighbours_differ(&names))
-}
-
-fn names_differ(alloc: Global, fields: &Fields<'_>) -> Result<bool, AllocError>
-    ensures { IfOk result (λ differ. differ ≡ spec.names_differ fields.now) }
-{
-    if fields.len() <= FEW {
-        return Ok(few_names_differ(fields));
-    }
-    many_names_differ(alloc, fields)
+    Ok(names.is_sorted_by(|name, next| name.cmp(next).is_lt()))
 }
 
 // Puts a further value behind the field's own, which is not copied.

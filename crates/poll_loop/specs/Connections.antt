@@ -226,7 +226,7 @@ Admits link spill app run opening old new net net' faults faults' =
     (books net' faults' (length new.fallen.items) (seated (eyes_of link) new.seats.items))
 
 -- what accepting leaves as it was, and room for a run of each that is open
-pub record Stays {N K M L A S P R : Type 0} (net : Nets N L P M) (stores : Stores K S)
+pub record Stays {N K M L A S P R : Type 0} (net : Nets N L M P) (stores : Stores K S)
     (old new : Connections L A S P R) (n n' : N) (k k' : K) : Type 0 where
   pub bind : net.bind_faults n' ≡ net.bind_faults n
   pub plan : net.plan n' ≡ net.plan n

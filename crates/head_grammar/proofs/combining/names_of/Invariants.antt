@@ -1,8 +1,7 @@
--- The names so far and those to come are all.
-use Rattle.std.proofs.Common.{◌≡◌, ◌++◌}
-use Rattle.head_grammar.specs.Combining.{names_of}
-use Rattle.head_grammar.proofs.Names.{texts}
+-- The names so far, and those of the fields that are left.
+use Rattle.std.proofs.Common.{◌≡◌, ◌++◌, map}
 use Rattle.head_grammar.proofs.combining.names_of.Given as goal
 
 abbrev pub invariant-loop-name : goal.invariant-loop-name
-invariant-loop-name l = texts l.names.items ++ names_of l.name-iterator ≡ names_of l.fields
+invariant-loop-name l = map (λ name. name.now) l.names.items
+    ++ map (λ field. field.name) l.name-iterator ≡ map (λ field. field.name) l.fields
