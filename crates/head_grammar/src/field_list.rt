@@ -2,7 +2,7 @@
 ghost use Rattle.std.specs.Prelude.{◌≡◌, ◌∷◌, [], ◌++◌, IfOk, OnOk};
 
 use crate::Field;
-use crate::field_line::SentField;
+use crate::field_lines::SentField;
 use crate::fields::Fields;
 use pair_list::{Letters, PairList};
 use std::alloc::{AllocError, Global};

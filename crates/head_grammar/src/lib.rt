@@ -2,9 +2,7 @@
 #![tactic(auto)]
 
 mod classes;
-mod combining;
 mod ends;
-mod field_line;
 mod field_lines;
 mod field_list;
 mod fields;
@@ -22,7 +20,7 @@ mod whole_line;
 pub use byte_tables::Refusal;
 pub use classes::{are_field_bytes, trim};
 pub use ends::head_end;
-pub use field_line::is_name;
+pub use field_lines::is_name;
 pub use field_list::FieldList;
 pub use fields::Fields;
 pub use head::Head;

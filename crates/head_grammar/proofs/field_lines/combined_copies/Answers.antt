@@ -1,7 +1,7 @@
 -- One field more.
 use Rattle.std.proofs.Common.{◌∙◌, [], sym, ap, rules}
 use Rattle.head_grammar.proofs.Rests.{added_all, all_added}
-use Rattle.head_grammar.proofs.combining.combined_copies.Goals as goal
+use Rattle.head_grammar.proofs.field_lines.combined_copies.Goals as goal
 
 pub loop-name-init : goal.loop-name-init
 loop-name-init c = record {

@@ -14,7 +14,7 @@ use Rattle.head_grammar.specs.declared.types.Field.{Field}
 use Rattle.head_grammar.proofs.Places.{added_some, added_none, place_is, places_last}
 use Rattle.std.specs.Str.{bytes_eq}
 use Rattle.std.proofs.lemmas.List.{get_or_default}
-use Rattle.head_grammar.proofs.combining.add_field.Goals as goal
+use Rattle.head_grammar.proofs.field_lines.add_field.Goals as goal
 
 pub index_mut-requires : goal.index_mut-requires
 index_mut-requires c =

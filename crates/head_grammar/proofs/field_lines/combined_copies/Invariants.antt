@@ -3,7 +3,7 @@ use Rattle.std.proofs.Common.{◌≡◌}
 use Rattle.head_grammar.specs.Combining.{ArePlaces}
 use Rattle.head_grammar.specs.FieldLines as spec
 use Rattle.head_grammar.proofs.Rests.{all_added}
-use Rattle.head_grammar.proofs.combining.combined_copies.Given as goal
+use Rattle.head_grammar.proofs.field_lines.combined_copies.Given as goal
 
 abbrev pub invariant-loop-name : goal.invariant-loop-name
 invariant-loop-name l = record {

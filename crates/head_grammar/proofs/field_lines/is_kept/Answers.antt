@@ -4,7 +4,7 @@ use Rattle.std.specs.Prelude.{not, ◌==◌}
 use Rattle.std.specs.List.{list_any}
 use Rattle.head_grammar.specs.declared.types.Field.{Field}
 use Rattle.head_grammar.proofs.LowerCase.{no_other}
-use Rattle.head_grammar.proofs.field_line.is_kept.Goals as goal
+use Rattle.head_grammar.proofs.field_lines.is_kept.Goals as goal
 
 pub returns : goal.returns
 returns c =

@@ -3,7 +3,7 @@ use Rattle.std.proofs.Common.{rules}
 use Rattle.std.proofs.lemmas.List.Sorted.{answers_always}
 use Rattle.std.specs.Ordering.{is_lt}
 use Rattle.head_grammar.proofs.Names.{by_text, sorted_tell}
-use Rattle.head_grammar.proofs.combining.names_differ.Goals as goal
+use Rattle.head_grammar.proofs.field_lines.names_differ.Goals as goal
 
 pub returns : goal.returns
 returns c =

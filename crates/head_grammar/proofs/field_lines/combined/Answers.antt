@@ -2,7 +2,7 @@
 use Rattle.std.proofs.Common.{sym, ap, ◌∙◌}
 use Rattle.head_grammar.specs.FieldLines.{names_differ}
 use Rattle.head_grammar.proofs.OneByOne.{combined_same}
-use Rattle.head_grammar.proofs.combining.combined.Goals as goal
+use Rattle.head_grammar.proofs.field_lines.combined.Goals as goal
 
 pub returns-then-branch : goal.returns-then-branch
 returns-then-branch c =
