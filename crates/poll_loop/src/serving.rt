@@ -1,5 +1,5 @@
 //! Turns, one after the other.
-ghost use Rattle.std.specs.Prelude.{◌≡◌, ◌≢◌, ◌⊎◌, [], IsTrue, Ok, false, length};
+ghost use Rattle.std.specs.Prelude.{◌≡◌, ◌≢◌, ◌↔◌, ◌⊎◌, [], IsTrue, Ok, false, length};
 ghost use Rattle.outside.specs.Causes.{raised};
 ghost use Rattle.poll_loop.specs.Accounts.{LastKnows, ServeCause, ServeEnds};
 ghost use Rattle.poll_loop.specs.Connections.{CameMore};
@@ -15,6 +15,13 @@ use crate::settings::{Going, ServeFault};
 use outside::{Net, Spills};
 use std::sync::Wait;
 use wsgi::App;
+
+// Whether serving goes on behind a turn.
+fn goes_on(answer: &Result<Going, ServeFault>) -> bool
+    ensures { IsTrue result ↔ (answer.now ≡ Ok going.On) }
+{
+    matches!(answer, Ok(Going::On))
+}
 
 impl<'a, N: Net, A: App<P::Spill>, P: Spills> Server<'a, N, A, P> {
     /// Makes one turn: polls, accepts, reads what is ready, makes steps and sends at once what they
@@ -88,9 +95,9 @@ impl<'a, N: Net, A: App<P::Spill>, P: Spills> Server<'a, N, A, P> {
         ensures stands { Stands (eyes_of N.Link.Link) A.Run.faults self.new }
     {
         for _ in rt.forever() {
-            match self.turn(net, spills) {
-                Ok(Going::On) => {}
-                ended => return ended,
+            let answer = self.turn(net, spills);
+            if !goes_on(&answer) {
+                return answer;
             }
         }
         unreachable!()

@@ -1,4 +1,4 @@
-use Rattle.std.proofs.Common.{Ok, ap, arith, refl, ◌∙◌}
+use Rattle.std.proofs.Common.{◌≢◌, ◌∙◌, Ok, arith, refl, sym, true≢false}
 use Rattle.channel.specs.Views.{telling}
 use Rattle.poll_loop.specs.Connections.{HasBroken, going_on, service_by}
 use Rattle.poll_loop.specs.Entries.{EntryHolds}
@@ -29,22 +29,22 @@ loop-init g c = record {
   spills = omega arith;
 }
 
-pub turn-requires-clause-stands : goal.turn-requires-clause-stands
-turn-requires-clause-stands g c _ _ = c.loop.invariant.stands
+pub turn-answer-requires-clause-stands : goal.turn-answer-requires-clause-stands
+turn-answer-requires-clause-stands g c _ _ = c.loop.invariant.stands
 
-pub turn-requires-clause-hosts : goal.turn-requires-clause-hosts
-turn-requires-clause-hosts g c _ _ = c.loop.invariant.hosts
+pub turn-answer-requires-clause-hosts : goal.turn-answer-requires-clause-hosts
+turn-answer-requires-clause-hosts g c _ _ = c.loop.invariant.hosts
 
 pub loop-preserved : goal.loop-preserved
 loop-preserved g c =
     let held = c.loop.invariant in
-    let made = c.turn.ensures in
-    let on = c.in-Ok-On.is ∙ ap Ok c.in-Ok-On.field-0-is in
+    let made = c.turn-answer.ensures in
+    let on = c.goes_on.ensures.0 c.if-not-goes_on.false in
     record {
       goes = λ tells. serve_again
           (telling g.N.Link.Link.tells g.P.Spill.Spill.tells g.A.App.tells) g.A.App.script
           g.A.Run.AppRun.faults (eyes_of g.N.Link.Link) _ _ _ _ _ _ _ _ _
-          c.turn.new.self.connections.accepted held.settings held.app (held.goes tells)
+          c.turn-answer.new.self.connections.accepted held.settings held.app (held.goes tells)
           (made.goes_on on tells) (made.came_more tells) (made.unstopped on tells)
           (made.knows on tells);
       hosts = made.hosts on;
@@ -57,23 +57,30 @@ loop-preserved g c =
       spills = let a = held.spills in let b = made.rest.spills in omega (arith, a, b);
     }
 
-pub returns-in_default-clause-served : goal.returns-in_default-clause-served
-returns-in_default-clause-served g c tells =
+pub returns-then-not-goes_on-clause-ended : goal.returns-then-not-goes_on-clause-ended
+returns-then-not-goes_on-clause-ended g c on =
+    true≢false (sym (c.goes_on.ensures.1 on) ∙ c.if-not-goes_on.true)
+
+pub returns-then-not-goes_on-clause-served : goal.returns-then-not-goes_on-clause-served
+returns-then-not-goes_on-clause-served g c tells =
     let held = c.loop.invariant in
-    let made = c.turn.ensures in
+    let made = c.turn-answer.ensures in
+    let other : c.turn-answer.result ≢ Ok going.On = λ on. true≢false
+        (sym (c.goes_on.ensures.1 on) ∙ c.if-not-goes_on.true) in
     serve_ended (telling g.N.Link.Link.tells g.P.Spill.Spill.tells g.A.App.tells) g.A.App.script
     g.A.Run.AppRun.faults (eyes_of g.N.Link.Link) _ _ _ _ _ _ _ _ _
-    c.turn.result _ refl held.settings held.app (held.goes tells)
-    (made.served (λ on. c.in_default.not-Ok-On on) tells) (made.still tells)
+    c.turn-answer.result _ refl held.settings held.app (held.goes tells)
+    (made.served other tells) (made.still tells)
 
-pub returns-in_default-clause-ends : goal.returns-in_default-clause-ends
-returns-in_default-clause-ends g c tells =
+pub returns-then-not-goes_on-clause-ends : goal.returns-then-not-goes_on-clause-ends
+returns-then-not-goes_on-clause-ends g c tells =
     let held = c.loop.invariant in
     serve_ends (telling g.N.Link.Link.tells g.P.Spill.Spill.tells g.A.App.tells) g.A.App.script
     g.A.Run.AppRun.faults (eyes_of g.N.Link.Link) _ _ c.args.self.now.app.now c.loop.self.app.now
-    _ _ _ _ _ c.turn.result _ refl held.settings (held.goes tells)
-    (c.turn.ensures.ends tells)
+    _ _ _ _ _ c.turn-answer.result _ refl held.settings (held.goes tells)
+    (c.turn-answer.ensures.ends tells)
 
-pub returns-in_default-clause-cause : goal.returns-in_default-clause-cause
-returns-in_default-clause-cause g c =
-    serve_cause c.turn.result _ _ _ _ refl c.loop.invariant.polls c.turn.ensures.cause
+pub returns-then-not-goes_on-clause-cause : goal.returns-then-not-goes_on-clause-cause
+returns-then-not-goes_on-clause-cause g c =
+    serve_cause c.turn-answer.result _ _ _ _ refl c.loop.invariant.polls
+    c.turn-answer.ensures.cause
