@@ -11,7 +11,7 @@ use std::alloc::Global;
 use std::collections::{LinkedList, VecDeque};
 use std::marker::Model;
 use std::snapshot::Snapshot;
-use told::{Accepted, LastPoll, Nothing};
+use noted::{Accepted, LastPoll, Nothing};
 
 /// A net in memory. Its connections come, and its calls fail, by its plan. It takes at `accept` the
 /// memory that the link's `recv` and `retire` need.
