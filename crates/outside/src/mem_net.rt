@@ -7,11 +7,11 @@ mod calls;
 mod noted;
 
 use crate::{Comer, Items, Listen, MemLink, NetPlan, NoMemory, Noted, Retired, note};
+use noted::{Accepted, LastPoll, Nothing};
 use std::alloc::Global;
 use std::collections::{LinkedList, VecDeque};
 use std::marker::Model;
 use std::snapshot::Snapshot;
-use noted::{Accepted, LastPoll, Nothing};
 
 /// A net in memory. Its connections come, and its calls fail, by its plan. It takes at `accept` the
 /// memory that the link's `recv` and `retire` need.

@@ -165,8 +165,7 @@ fn accept_all<'a, N: Net, A: App<P::Spill>, P: Spills>(
     ensures takes { Takes (eyes_of N.Link.Link) opening.now.settings.now
         opening.now.app.now opening.now.moment connections.old.seats.items
         connections.new.seats.items }
-    ensures within
-        { length connections.new.seats.items ≤ opening.now.settings.now.connection_limit }
+    ensures within { length connections.new.seats.items ≤ opening.now.settings.now.connection_limit }
     ensures accounts { IsTrue N.tells → Admits N.Link.Link P.Spill.Spill A.App A.Run.AppRun
         opening.now connections.old connections.new (N.state net.old) (N.state net.new)
         (P.faults spills.old) (P.faults spills.new) }

@@ -8,8 +8,7 @@ ghost use Rattle.task_core.specs.Starts as spec;
 ghost use Rattle.task_core.specs.Starts.{is_valid, declared_length, lengths, are_lengths};
 ghost use Rattle.task_core.specs.HopByHop.{hop_rows};
 
-use byte_tables::{Case, cases, find_folded, is_digit};
-use byte_tables::{is_number, number_of};
+use byte_tables::{Case, cases, find_folded, is_digit, is_number, number_of};
 use head_grammar::{Field, are_field_bytes, is_name};
 use outside::{Bytes, Items};
 

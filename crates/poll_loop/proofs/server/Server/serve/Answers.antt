@@ -66,7 +66,7 @@ returns-then-not-goes_on-clause-served g c tells =
     let held = c.loop.invariant in
     let made = c.turn-answer.ensures in
     let other : c.turn-answer.result ≢ Ok going.On = λ on. true≢false
-        (sym (c.goes_on.ensures.1 on) ∙ c.if-not-goes_on.true) in
+    (sym (c.goes_on.ensures.1 on) ∙ c.if-not-goes_on.true) in
     serve_ended (telling g.N.Link.Link.tells g.P.Spill.Spill.tells g.A.App.tells) g.A.App.script
     g.A.Run.AppRun.faults (eyes_of g.N.Link.Link) _ _ _ _ _ _ _ _ _
     c.turn-answer.result _ refl held.settings held.app (held.goes tells)
