@@ -121,9 +121,9 @@ module _ (X T P : RattleType) (g : Ghosts P.Denot X.Denot T.Denot) (dict : Dict)
       z.0.1) (sem 𝓛 (owns Rs a vss)))) (owns_show 𝓛 Rs (Ises Rs) (showss 𝓛 Rs) a vss)) (λ are.
       subst (Goes 𝓣.C 𝓣.Λ z) (sym are.0.0) (walks 𝓣.C 𝓣.Λ z)))
 
-pub tell_spec : {M : Type 1} → statement M
+pub note_spec : {M : Type 1} → statement M
 unfolding tables_of
-tell_spec 𝓤 𝓛 𝓜 𝓡 wired X T P _ _ _ g dict _ =
+note_spec 𝓤 𝓛 𝓜 𝓡 wired X T P _ _ _ g dict _ =
     let 𝓣 : Tables 𝓤 𝓛.H = tables_of 𝓤 𝓛.H 𝓜 (tables 𝓤 𝓛.H 𝓜 𝓡 𝓡.env) in
     entered 𝓤 𝓛.H (triple_of 𝓛 (ended X T P g dict).signature
     (closing 𝓛 (ended X T P g dict) (clauses X T P g dict 𝓛 𝓜.mem 𝓡.returns))) 𝓣.C 𝓣.Λ
