@@ -12,18 +12,21 @@ use Rattle.channel.specs.declared.types.Window.{Window}
 use Rattle.outside.specs.Causes.{Rose}
 use Rattle.outside.specs.Link.{LinkState, opened}
 use Rattle.outside.specs.Net.{GivesLink, NetState, asked_of}
+use Rattle.outside.specs.declared.net.Net.{Ghosts as Nets}
 use Rattle.outside.specs.declared.retired.Retired.{Retired}
+use Rattle.outside.specs.declared.spill.Spills.{Ghosts as Stores}
 use Rattle.outside.specs.declared.types.End.TheVariants as over
 use Rattle.outside.specs.declared.types.Peer.{Peer}
 use Rattle.outside.specs.declared.types.Want.{Want}
 use Rattle.poll_loop.specs.Accounts.{Accounts, Books, TimeGoesOn, books, retired_of}
 use Rattle.poll_loop.specs.Connections.{CameAll, CameBy, CameMore, CameUntil, LeavesNobody}
-use Rattle.poll_loop.specs.Connections.{SamePolls, SeatsOne, Takes, seated}
+use Rattle.poll_loop.specs.Connections.{SamePolls, SeatsOne, Stays, Takes, seated}
 use Rattle.poll_loop.specs.Entries.{EntryHolds, Grounds, IsTimely, IsWithin, Service, app_faults}
 use Rattle.poll_loop.specs.Entries.{spill_faults}
 use Rattle.poll_loop.specs.Seat.{Eyes, SeatHolds, viewed}
 use Rattle.poll_loop.specs.Settings.{fixed_by, is_below}
 use Rattle.poll_loop.specs.declared.connections.Came.{Came}
+use Rattle.poll_loop.specs.declared.connections.Connections.{Connections}
 use Rattle.poll_loop.specs.declared.connections.Came.TheVariants as came
 use Rattle.poll_loop.specs.declared.seat.Mark.TheVariants as mark
 use Rattle.poll_loop.specs.declared.seat.Seat.{Seat}
@@ -492,3 +495,17 @@ has_room limit n b h = ltb-true _ _ (first_true (nat_lt n limit) b h)
 pub room_more : (limit n k m : ℕ) (b : Bool) → IsTrue (nat_lt n limit && b) → n ≡ k → m ≤ k + 1 →
     m ≤ limit
 room_more limit n k m b h e more = let less = has_room limit n b h in omega (arith, less, e, more)
+
+-- what stays by two accepts
+pub stays_on : {N K M L A S P R : Type 0} {net : Nets N L M P} {stores : Stores K S}
+    {old mid new : Connections L A S P R} {n n1 n2 : N} {k k1 k2 : K} →
+    Stays net stores old mid n n1 k k1 → Stays net stores mid new n1 n2 k1 k2 →
+    Stays net stores old new n n2 k k2
+stays_on one more = record {
+  bind = more.bind ∙ one.bind;
+  plan = more.plan ∙ one.plan;
+  moment = more.moment ∙ one.moment;
+  shelf = more.shelf;
+  fallen = more.fallen ∙ one.fallen;
+  spills = more.spills ∙ one.spills;
+}

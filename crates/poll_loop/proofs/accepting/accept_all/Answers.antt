@@ -6,7 +6,7 @@ use Rattle.poll_loop.specs.Settings.{is_below}
 use Rattle.poll_loop.proofs.Books.{entry_holds_later}
 use Rattle.poll_loop.proofs.Coming.{full_came, full_seats, full_until, has_room, last_accounts}
 use Rattle.poll_loop.proofs.Coming.{last_came, last_more, last_polls, last_takes, last_until}
-use Rattle.poll_loop.proofs.Coming.{one_more, room_more, some_round, start_accepting}
+use Rattle.poll_loop.proofs.Coming.{one_more, room_more, some_round, start_accepting, stays_on}
 use Rattle.poll_loop.proofs.accepting.accept_all.Goals as goal
 
 pub loop-init : goal.loop-init
@@ -16,14 +16,16 @@ loop-init g c =
     (is_below settings.serve_limit c.args.connections.now.accepted) c.requires.more in (
       start_accepting _ _ _ _ _ _ _ _ _,
       omega (arith, less),
-      c.requires.counted,
+      c.requires.admits.counted,
       refl,
-      refl,
-      refl,
-      refl,
-      refl,
-      refl,
-      c.requires.shelf,
+      record {
+        bind = refl;
+        plan = refl;
+        moment = refl;
+        shelf = c.requires.admits.shelf;
+        fallen = refl;
+        spills = refl;
+      },
     )
 
 pub loop-preserved : goal.loop-preserved
@@ -40,12 +42,7 @@ loop-preserved g c =
           (c.len.ensures ∙ e) s.few,
       s.counted,
       c.in-One.ensures.cause ∙ i.3,
-      s.bind ∙ i.4,
-      s.plan ∙ i.5,
-      s.moment ∙ i.6,
-      s.spills ∙ i.7,
-      s.fallen ∙ i.8,
-      s.shelf,
+      stays_on i.4 s.stays,
     )
 
 pub returns-in_default : goal.returns-in_default
@@ -75,12 +72,7 @@ returns-in_default g c =
       counted = s.counted;
       came_more = last_more _ _ _ _ _ _ (entry_holds_later _ _ _ _) c.loop.counter _ _ _ _ _ _ _ _ _
           i.0 s.takes s.accounts s.same_polls s.came_more;
-      bind = s.bind ∙ i.4;
-      plan = s.plan ∙ i.5;
-      moment = s.moment ∙ i.6;
-      shelf = s.shelf;
-      fallen = s.fallen ∙ i.8;
-      spills = s.spills ∙ i.7;
+      stays = stays_on i.4 s.stays;
     }
 
 pub returns-then-not-accepts-clause-came : goal.returns-then-not-accepts-clause-came

@@ -1,7 +1,7 @@
-use Rattle.std.proofs.Common.{◌≡◌, ◌≤◌, ◌+◌, length, vec_capacity}
+use Rattle.std.proofs.Common.{◌≡◌, ◌≤◌, length}
 use Rattle.channel.specs.Views.{telling}
 use Rattle.poll_loop.specs.Accounts.{books}
-use Rattle.poll_loop.specs.Connections.{Counted, HasBroken, going_on, seated, service_by}
+use Rattle.poll_loop.specs.Connections.{HasBroken, IsCounted, Stays, going_on, seated, service_by}
 use Rattle.poll_loop.specs.Entries.{EntryHolds}
 use Rattle.poll_loop.specs.Seat.{eyes_of}
 use Rattle.poll_loop.proofs.Coming.{SoFar}
@@ -22,13 +22,6 @@ invariant-loop g l =
     (seated (eyes_of g.N.Link.Link) l.connections.seats.items))
     l.fn.connections.accepted l.connections.accepted
     × (length l.connections.seats.items ≤ l.fn.opening.settings.now.connection_limit)
-    × Counted l.fn.opening.settings.now.serve_limit l.connections.accepted l.connections.retired
-    (length l.connections.seats.items)
+    × IsCounted l.fn.opening.settings.now l.connections
     × (g.N.Net.poll_faults l.net ≡ g.N.Net.poll_faults l.fn.net)
-    × (g.N.Net.bind_faults l.net ≡ g.N.Net.bind_faults l.fn.net)
-    × (g.N.Net.plan l.net ≡ g.N.Net.plan l.fn.net)
-    × (g.N.Net.moment l.net ≡ g.N.Net.moment l.fn.net)
-    × (g.P.Spills.faults l.spills ≡ g.P.Spills.faults l.fn.spills)
-    × (l.connections.fallen.items ≡ l.fn.connections.fallen.items)
-    × (length l.connections.fallen.items + length l.connections.seats.items ≤ vec_capacity
-    l.connections.fallen)
+    × Stays g.N.Net g.P.Spills l.fn.connections l.connections l.fn.net l.net l.fn.spills l.spills

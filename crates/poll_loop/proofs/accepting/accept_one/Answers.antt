@@ -78,5 +78,5 @@ returns-in-Err-clause-accounts g c told =
     (ap length c.in-Err.ensures.fallen) mid new peer link given'' r
     (entry_refused _ _ g.N.Link.Link.state g.N.Link.Link.faults new opening.moment peer link
     (telling_link g.N.Link.Link.tells g.P.Spill.Spill.tells g.A.App.tells) opened_at
-    (within_later old new opening.moment time (c.requires.within told)))
+    (within_later old new opening.moment time (c.requires.admits.within told)))
     (ap (seated (eyes_of g.N.Link.Link)) c.in-Err.ensures.kept)
