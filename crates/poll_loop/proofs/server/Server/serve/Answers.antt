@@ -77,7 +77,9 @@ returns-then-not-goes_on-clause-ends g c tells =
     let held = c.loop.invariant in
     serve_ends (telling g.N.Link.Link.tells g.P.Spill.Spill.tells g.A.App.tells) g.A.App.script
     g.A.Run.AppRun.faults (eyes_of g.N.Link.Link) _ _ c.args.self.now.app.now c.loop.self.app.now
-    _ _ _ _ _ c.turn-answer.result _ refl held.settings (held.goes tells)
+    _ _ _ _ (booked (eyes_of g.N.Link.Link) (g.N.Net.state c.turn-answer.new.net)
+    (g.P.Spills.faults c.turn-answer.new.spills) (serving c.turn-answer.new.self))
+    c.turn-answer.result _ refl held.settings (held.goes tells)
     (c.turn-answer.ensures.ends tells)
 
 pub returns-then-not-goes_on-clause-cause : goal.returns-then-not-goes_on-clause-cause
