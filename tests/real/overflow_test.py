@@ -1,14 +1,17 @@
 """Bodies and answers that don't stand in memory."""
 import os
 import re
+import tempfile
 import threading
+import time
 import unittest
 
-from support import Server, answer, post, read_answer, request
+from support import Server, answer, post, read_answer, request, serve
 
 BODY = bytes(range(256)) * 1200
 MEGABYTE = bytes(range(256)) * 4096
 CROWD = 64
+GIGABYTE = 1 << 30
 
 
 def files_without_names(server):
@@ -69,3 +72,17 @@ class Overflow(unittest.TestCase):
             self.assertEqual(wrong, [])
             self.assertLess(greatest_memory(server), 60_000_000)
 
+    def test_a_slow_reader_of_a_large_file_takes_little_memory(self):
+        folder = self.enterContext(tempfile.TemporaryDirectory())
+        with open(f"{folder}/large", "wb") as file:
+            file.truncate(GIGABYTE)
+        server = serve(self, "dir", folder)
+        with server.connect() as link:
+            link.sendall(request("GET", "1.1", "Connection: close", path="/large"))
+            read, room = 0, bytearray(1 << 16)
+            while count := link.recv_into(room):
+                read += count
+                if read < GIGABYTE // 16:
+                    time.sleep(0.001)
+        self.assertGreater(read, GIGABYTE)
+        self.assertLess(greatest_memory(server), 40_000_000)

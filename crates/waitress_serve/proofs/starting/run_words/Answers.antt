@@ -1,11 +1,14 @@
-use Rattle.std.proofs.Common.{◌≡◌, ◌∙◌, Err, Ok, Some, ap, arith, inl, inr, refl, sym}
+use Rattle.std.proofs.Common.{◌≡◌, ◌∙◌, ℕ, Bool, List, Option, Err, Ok, Some, ap, arith, inl, inr}
+use Rattle.std.proofs.Common.{refl, sym}
 use Rattle.adjust.specs.Command.{IsOrLacksMemory}
 use Rattle.adjust.specs.declared.types.Command.{Command}
 use Rattle.adjust.specs.declared.types.UsageFault.{UsageFault}
 use Rattle.adjust.specs.declared.types.UsageFault.TheVariants.{NoMemory}
+use Rattle.outside.specs.Net.{NetState}
 use Rattle.waitress_serve.specs.Conclusions.{BindCount, Concludes, DoneAdds, DoneStops}
 use Rattle.waitress_serve.specs.Conclusions.{FailsUnstopped, IsUnread, NetLeaves, OutCount}
 use Rattle.waitress_serve.specs.Conclusions.{OutLeaves, PollCount, TableCount}
+use Rattle.waitress_serve.specs.Made.{Files}
 use Rattle.waitress_serve.specs.Reading.{Reading}
 use Rattle.waitress_serve.specs.Status.{listen_by}
 use Rattle.waitress_serve.specs.declared.conclusion.Conclusion.{Conclusion}
@@ -66,19 +69,60 @@ returns-in-Ok-clause-fell g c = λ told.
     settles_runs _ _ _ _ _ _ _ _ _ (g.N.Net.state c.args.net.now) _
     (c.carry_out.ensures.ran told)
 
--- what holds of both ends of words that could not be read holds of the one that they have
-unread_either : (P : Conclusion → Type 0) (wrong : UsageFault) (end : Conclusion) →
-    IsUnread wrong end →
-    ((fault : UsageFault) → fault ≡ wrong → (wrong ≡ NoMemory → ⊥) → P (conclusion.Usage fault)) →
-    P conclusion.NoMemory → P end
-unread_either P wrong conclusion.Done h usage memory = absurd h
-unread_either P wrong (conclusion.Usage fault) h usage memory = usage fault h.0 h.1
-unread_either P wrong conclusion.NotBuilt h usage memory = absurd h
-unread_either P wrong (conclusion.Unmade why) h usage memory = absurd h
-unread_either P wrong conclusion.BindFailed h usage memory = absurd h
-unread_either P wrong conclusion.Unprinted h usage memory = absurd h
-unread_either P wrong conclusion.PollFailed h usage memory = absurd h
-unread_either P wrong conclusion.NoMemory h usage memory = memory
+-- Words that could not be read leave all as it was.
+module _ (wrong : UsageFault) where
+  -- what holds of both ends of such words holds of the one that they have
+  either : (P : Conclusion → Type 0) (end : Conclusion) → IsUnread wrong end →
+      ((fault : UsageFault) → fault ≡ wrong → (wrong ≡ NoMemory → ⊥) →
+      P (conclusion.Usage fault)) →
+      P conclusion.NoMemory → P end
+  either P conclusion.Done h usage memory = absurd h
+  either P (conclusion.Usage fault) h usage memory = usage fault h.0 h.1
+  either P conclusion.NotBuilt h usage memory = absurd h
+  either P (conclusion.Unmade why) h usage memory = absurd h
+  either P conclusion.BindFailed h usage memory = absurd h
+  either P conclusion.Unprinted h usage memory = absurd h
+  either P conclusion.PollFailed h usage memory = absurd h
+  either P conclusion.NoMemory h usage memory = memory
+
+  module _ (end : Conclusion) (unread : IsUnread wrong end) where
+    why_unread : (told : Bool) (n m : ℕ) (files : Files) (asked : Reading) →
+        ((wrong ≡ NoMemory → ⊥) → asked ≡ Err wrong) → Concludes told n m files asked end
+    why_unread told n m files asked is = either (λ r. Concludes told n m files asked r) end unread
+        (λ f e other. is other ∙ ap Err (sym e)) (record {})
+
+    binds_unread : (n : ℕ) → BindCount end n n
+    binds_unread n = either (λ r. BindCount r n n) end unread (λ f e o. refl) refl
+
+    polls_unread : (n : ℕ) → PollCount end n n
+    polls_unread n = either (λ r. PollCount r n n) end unread (λ f e o. refl) refl
+
+    outs_unread : (n : ℕ) → OutCount end n n
+    outs_unread n = either (λ r. OutCount r n n) end unread (λ f e o. refl) refl
+
+    tree_unread : (n : ℕ) → TableCount end n n
+    tree_unread n = either (λ r. TableCount r n n) end unread (λ f e o. refl) refl
+
+    text_unread : (text written : List ℕ) → OutLeaves text end written written
+    text_unread text written = either (λ r. OutLeaves text r written written) end unread
+        (λ f e o. refl) (inl refl)
+
+    net_unread : {L P : Type 0} (net : NetState L P) → NetLeaves end net net
+    net_unread net = either (λ r. NetLeaves r net net) end unread (λ f e o. refl) (record {})
+
+    stops_unread : {L P : Type 0} (limit : Option ℕ) (net : NetState L P) →
+        DoneStops limit end net net
+    stops_unread limit net = either (λ r. DoneStops limit r net net) end unread
+        (λ f e o. record {}) (record {})
+
+    fails_unread : {L P : Type 0} (net : NetState L P) → FailsUnstopped end net net
+    fails_unread net = either (λ r. FailsUnstopped r net net) end unread
+        (λ f e o. record {}) (record {})
+
+    adds_unread : {E : Type 0} (Holds : E → Type 0) (closed : List E) →
+        DoneAdds Holds end closed closed
+    adds_unread Holds closed = either (λ r. DoneAdds Holds r closed closed) end unread
+        (λ f e o. record {}) (record {})
 
 pub returns-in-Err : goal.returns-in-Err
 returns-in-Err g c =
@@ -86,14 +130,12 @@ returns-in-Err g c =
     let end = c.unread.result in
     let unread = c.unread.ensures in
     record {
-      why = unread_either (λ r. Concludes _ _ _ _ _ r) wrong end unread
-          (λ f e other. is_fault _ wrong other c.in-Err.ensures.command ∙ ap Err (sym e)) (record {});
-      binds = unread_either (λ r. BindCount r _ _) wrong end unread (λ f e o. refl) refl;
-      polls = unread_either (λ r. PollCount r _ _) wrong end unread (λ f e o. refl) refl;
-      net = λ told. unread_either (λ r. NetLeaves r _ _) wrong end unread
-          (λ f e o. refl) (record {});
-      stops = λ told some. unread_either (λ r. DoneStops _ r _ _) wrong end unread
-          (λ f e o. record {}) (record {});
+      why = why_unread wrong end unread _ _ _ _ _ (λ other.
+          is_fault _ wrong other c.in-Err.ensures.command);
+      binds = binds_unread wrong end unread _;
+      polls = polls_unread wrong end unread _;
+      net = λ told. net_unread wrong end unread _;
+      stops = λ told some. stops_unread wrong end unread _ _;
       limited = λ told. keeps_same _ _ _ refl;
       idle = λ none. (refl, refl);
       idle_net = λ told none. refl;
@@ -102,24 +144,20 @@ returns-in-Err g c =
       given = λ told. nobody_given _ _ _ refl refl;
       live = λ told. refl;
       quiet = λ told. refl;
-      unstopped = λ told. unread_either (λ r. FailsUnstopped r _ _) wrong end unread
-          (λ f e o. record {}) (record {});
+      unstopped = λ told. fails_unread wrong end unread _;
       plan = refl;
       bound = λ told more. absurd (omega (arith, more));
       spills = omega arith;
       settled = λ told. nothing_settled _ _ _ _ refl refl;
       fell = λ told. no_run_settled _ _ _ _ refl refl;
       complete = λ told links spills app quiet still unbroken brief.
-          unread_either (λ r. DoneAdds _ r _ _) wrong end unread
-          (λ f e o. record {}) (record {});
+          adds_unread wrong end unread _ _;
       tree = omega arith;
       files = λ told. refl;
       tree_kept = λ none. refl;
-      tree_read = λ none. unread_either (λ r. TableCount r _ _) wrong end unread
-          (λ f e o. refl) refl;
+      tree_read = λ none. tree_unread wrong end unread _;
       idle_out = λ some none. refl;
-      outs = unread_either (λ r. OutCount r _ _) wrong end unread (λ f e o. refl) refl;
-      text = λ told. unread_either (λ r. OutLeaves _ r _ _) wrong end unread
-          (λ f e o. refl) (inl refl);
+      outs = outs_unread wrong end unread _;
+      text = λ told. text_unread wrong end unread _ _;
       printed = λ told net more. absurd (omega (arith, more));
     }
