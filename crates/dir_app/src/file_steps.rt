@@ -34,7 +34,7 @@ pub(crate) struct FileSteps<E: TreeEntry> {
     pub(crate) progress: Progress,
     pub ghost sized: { ForSome (spec.size_of progress) (λ size. E.sized entry ≡ Some size) },
     pub ghost within: { ForSome (spec.size_of progress) (λ size. spec.place_of progress ≤ size) },
-    pub ghost noted: { IsTrue E.tells → ForSome (spec.size_of progress) (λ size. option_map length (E.file entry) ≡ Some size) },
+    pub ghost told: { IsTrue E.tells → ForSome (spec.size_of progress) (λ size. option_map length (E.file entry) ≡ Some size) },
 }
 
 impl<E: TreeEntry> FileSteps<E> {
