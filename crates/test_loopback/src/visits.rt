@@ -60,9 +60,9 @@ fn words(alloc: Global, port: u16) -> Result<Vec<String>, AllocError> {
 fn serve<W: Threads + Wait + Sync>(threads: &W, rt: HostRuntime, port: u16) -> Option<Ended> {
     let alloc = rt.alloc();
     let words = words(alloc, port).ok()?;
-    let mut net = MioNet::new(alloc, rt).ok()?;
-    let trigger = net.trigger().ok()?;
-    let mut tree = DiskTree::new(rt);
+    let mut sockets = MioNet::new(alloc, rt).ok()?;
+    let trigger = sockets.trigger().ok()?;
+    let mut files = DiskTree::new(rt);
     let mut spills = FileSpills::new(alloc, rt, "/tmp");
     let mut out = MemSink::new(alloc, Vec::new(alloc));
     let mut err = MemSink::new(alloc, Vec::new(alloc));
@@ -70,8 +70,8 @@ fn serve<W: Threads + Wait + Sync>(threads: &W, rt: HostRuntime, port: u16) -> O
         threads,
         alloc,
         &words,
-        &mut net,
-        &mut tree,
+        &mut sockets,
+        &mut files,
         &mut spills,
         &mut out,
         &mut err,
