@@ -1,0 +1,14 @@
+mod Channels
+mod ClosingUnits
+mod Courses
+mod Ends
+mod HeadFields
+mod HeadTexts
+mod HeadVerdicts
+mod Lists
+mod Numbers
+mod Plans
+mod RequestTexts
+mod Rounds
+mod Turns
+mod UnderWay

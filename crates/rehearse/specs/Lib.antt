@@ -1,0 +1,4 @@
+pub mod Between
+pub mod Falling
+pub mod Looked
+pub mod Rehearsed
