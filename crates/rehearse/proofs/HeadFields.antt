@@ -11,10 +11,10 @@ use Rattle.std.proofs.lemmas.Bool.{lt-ltb}
 use Rattle.std.proofs.lemmas.Fmt.{decimal_is_IsNumeral}
 use Rattle.std.proofs.lemmas.List.Sums.{prefix_len-drop_no, suffix_len-take_no}
 use Rattle.std.proofs.lemmas.Str.Parse.{digit_at}
-use Rattle.byte_tables.specs.Classes.{is_field}
+use Rattle.byte_tables.specs.Classes.{is_field, is_white_space}
 use Rattle.byte_tables.specs.declared.refusal.Refusal.{Refusal}
 use Rattle.byte_tables.specs.declared.refusal.Refusal.TheVariants as refusal
-use Rattle.head_grammar.specs.Classes.{is_white_space, trimmed, without_space_behind}
+use Rattle.head_grammar.specs.Classes.{trimmed, without_space_behind}
 use Rattle.head_grammar.specs.Classes.{without_space_in_front}
 use Rattle.head_grammar.specs.FieldLines.{cut_at, field_line, field_lines, field_value, fields_of}
 use Rattle.head_grammar.specs.FieldLines.{kept_fields, combined_of, kept_of, onto_fields, unfolded}

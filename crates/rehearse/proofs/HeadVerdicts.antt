@@ -4,11 +4,12 @@ use Rattle.std.proofs.Common.{length, None, Some, Ok, Err, refl, ap, sym, subst,
 use Rattle.std.specs.Prelude.{Result, not, ◌||◌, nat_le, codes, decimal}
 use Rattle.std.specs.Str.Parse.{digits_value}
 use Rattle.std.proofs.lemmas.Fmt.{decimal_is_IsNumeral}
+use Rattle.byte_tables.specs.Numbers.{is_number}
 use Rattle.byte_tables.specs.declared.refusal.Refusal.{Refusal}
 use Rattle.byte_tables.specs.declared.refusal.Refusal.TheVariants as refusal
 use Rattle.head_grammar.specs.FieldLines.{field_value, fields_of}
 use Rattle.head_grammar.specs.Framings.{closes_by, closes_of, fixed, framing_by, framing_of}
-use Rattle.head_grammar.specs.Framings.{has_both, is_number}
+use Rattle.head_grammar.specs.Framings.{has_both}
 use Rattle.head_grammar.specs.RequestLines.{request_line}
 use Rattle.head_grammar.specs.Verdict.{by_fields, by_framing, by_line, verdict, verdict_of}
 use Rattle.head_grammar.specs.declared.request_line.RequestLine.{RequestLine}

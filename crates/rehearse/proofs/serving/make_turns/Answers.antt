@@ -49,8 +49,8 @@ loop-net-preserved g c =
       came_more = made.came_more refl;
       unstopped = made.unstopped on refl;
       knows = made.knows on refl;
-      plan = made.plan;
-      settings = made.settings;
+      plan = made.rest.plan;
+      settings = made.same.settings;
       keeps = c.look.ensures.kept;
       sound = c.look.ensures.sound;
       positive = positive_seats c.turn-going.new.self.settings.now
@@ -61,9 +61,9 @@ loop-net-preserved g c =
       goes = next.goes;
       hosts = made.hosts on refl;
       stands = made.stands;
-      settings = made.settings ∙ held.settings;
-      app = made.app ∙ held.app;
-      plan = made.plan ∙ held.plan;
+      settings = made.same.settings ∙ held.settings;
+      app = made.same.app ∙ held.app;
+      plan = made.rest.plan ∙ held.plan;
       between = next.between;
     }
 
@@ -84,8 +84,8 @@ loop-net-smaller g c =
       came_more = made.came_more refl;
       unstopped = made.unstopped on refl;
       knows = made.knows on refl;
-      plan = made.plan;
-      settings = made.settings;
+      plan = made.rest.plan;
+      settings = made.same.settings;
       keeps = c.look.ensures.kept;
       sound = c.look.ensures.sound;
       positive = positive_seats c.turn-going.new.self.settings.now
@@ -111,7 +111,7 @@ returns-in-Ok-Stopped g c =
     c.turn-going.new.spills.faults (serving c.args.server.now) (serving c.loop-net.server)
     (serving c.turn-going.new.self) c.turn-going.result is held.settings held.app held.goes
     (made.served (λ on. absurd (cc (on, is))) refl) (made.still refl) (made.ends refl)
-    (made.plan ∙ held.plan) c.look_back.ensures.kept c.look_back.ensures.links)
+    (made.rest.plan ∙ held.plan) c.look_back.ensures.kept c.look_back.ensures.links)
 
 pub unreachable-requires : goal.unreachable-requires
 unreachable-requires g c =
@@ -129,4 +129,4 @@ unreachable-requires-in-Err-Net g c =
     rw c.in-Err-Net.is at c.in-Err-Net.field-0-is in
     no_fault c.turn-going.result c.loop-net.net.poll_faults between.connections
     c.turn-going.new.net (c.in-Err-Net.is ∙ ap (λ x. Err x) same)
-    (c.turn-going.ensures.plan ∙ between.way.plan) c.look.ensures.kept c.turn-going.ensures.cause
+    (c.turn-going.ensures.rest.plan ∙ between.way.plan) c.look.ensures.kept c.turn-going.ensures.cause
