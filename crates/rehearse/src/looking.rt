@@ -1,6 +1,5 @@
 //! What open and retired connections tell of themselves. These functions only ask: their clauses
 //! are what is known then.
-ghost use Rattle.std.specs.Prelude.{◌≡◌};
 ghost use Rattle.outside.specs.MemLink.{KeepsToPlan};
 ghost use Rattle.outside.specs.MemNet.{KeepsToNetPlan};
 ghost use Rattle.poll_loop.specs.Lists.{EachIs};
